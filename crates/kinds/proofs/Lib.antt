@@ -1,0 +1,4 @@
+pub mod Eight
+pub mod RowLaws
+pub mod Laid
+pub mod Totals

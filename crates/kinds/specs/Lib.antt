@@ -1,0 +1,5 @@
+pub mod Arithmetic
+pub mod Answers
+pub mod Rows
+pub mod Bytes
+pub mod Sums
