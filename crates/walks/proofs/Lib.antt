@@ -1,0 +1,11 @@
+pub mod Names
+pub mod Order
+pub mod Least
+pub mod Cuts
+pub mod Distances
+pub mod Metric
+pub mod Sizes
+pub mod Schedules
+pub mod Windows
+pub mod Routes
+pub mod Transfer

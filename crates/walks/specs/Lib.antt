@@ -1,0 +1,4 @@
+pub mod Bounds
+pub mod Walks
+pub mod Least
+pub mod Claims
