@@ -1,0 +1,5 @@
+pub mod Amounts
+pub mod Walks
+pub mod Simple
+pub mod Sizes
+pub mod Held

@@ -1,0 +1,4 @@
+// Sets of marks, one mark for each event that a net can have.
+pub mod operations;
+pub mod set;
+mod word;

@@ -1,0 +1,5 @@
+pub mod BoundsHeld
+pub mod Outcomes
+pub mod Soundness
+pub mod Neighbourhoods
+pub mod RankingWhole

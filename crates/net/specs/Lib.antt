@@ -1,0 +1,5 @@
+pub mod Limits
+pub mod Refusals
+pub mod State
+pub mod Told
+pub mod Lacks

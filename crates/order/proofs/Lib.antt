@@ -1,0 +1,13 @@
+pub mod Pigeons
+pub mod Stretches
+pub mod Faults
+pub mod Placing
+pub mod Orders
+pub mod Counting
+pub mod Eliminations
+pub mod Ranks
+pub mod Visits
+pub mod Computed
+pub mod Pairings
+pub mod Fills
+pub mod Looks

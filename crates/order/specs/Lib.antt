@@ -1,0 +1,5 @@
+pub mod Orderings
+pub mod Elimination
+pub mod Ranking
+pub mod Neighbours
+pub mod Counted
