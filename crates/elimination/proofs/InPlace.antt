@@ -1,11 +1,11 @@
--- The elimination in one matrix.
+-- The elimination in one table.
 use mathlib.Core.Path.{_≡_, refl, sym, ap, _∙_, subst}
 use mathlib.Core.Logic.{_⊎_, inl, inr, _≢_}
 use Prim.Native.Nat.{ℕ, _≤_, _<_, suc}
 use native.Mathlib.Omega.{arith}
 use native.Mathlib.Nat.{eq-or-lt-of-le}
 use Rattle.elimination.specs.Amounts.{Amounts}
-use Rattle.elimination.specs.Walks.{Walk, Any, Exact, Worked, Ring, Kept, Broken, Tests, Eliminates}
+use Rattle.elimination.specs.Walks.{Walk, Any, Exact, Worked, Ring, Kept, Tests, Eliminates}
 use Rattle.elimination.proofs.Rows.{loosen, join}
 use Rattle.elimination.proofs.Steps.{starts, ring, eliminated}
 
@@ -33,11 +33,3 @@ module _ {A : Type 0} {zero : A} {plus : A → A → A} {le : A → A → Type 0
           out = λ i h. carry (λ a. next .rest m i a (inl p)) (r .out i h);
           loops = r .loops;
         }
-
-    pub broken : (i : ℕ) (b c : A) → i < k → W i k b → W k i c → ¬ (le zero (plus b c)) → Broken zero plus le E
-    broken i b c h x y neg = record {
-      at = i;
-      sum = plus b c;
-      row = join L (loosen (λ x h. tt) (ring L k (inv .worked) .into i h .sound b x)) tt (loosen (λ x h. tt) (ring L k (inv .worked) .out i h .sound c y));
-      negative = neg;
-    }

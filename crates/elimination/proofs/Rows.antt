@@ -57,10 +57,6 @@ module _ {A : Type 0} {zero : A} {plus : A → A → A} {le : A → A → Type 0
       })
     ]
 
-  -- the split lemma as it was asked for
-  pub split-at : (k : ℕ) {i j : ℕ} {s : A} → Walk plus E (λ x. k ≤ x) i j s → Walk plus E (λ x. k < x) i j s ⊎ Parts plus E (λ x. k < x) (λ x. k ≡ x) (λ x. k ≤ x) i j s
-  split-at k = first (λ x h. elim (eq-or-lt-of-le h) [ inl e ↦ inr e | inr l ↦ inl l ])
-
   -- a walk over events from k on comes to no less than one that meets k at most once
   module _ (k : ℕ) (loops : (t : A) → Walk plus E (λ x. k < x) k k t → le zero t) where
     pub cut : {i j : ℕ} {s : A} → Walk plus E (λ x. k ≤ x) i j s → Below zero plus le E (λ x. k < x) i j s ⊎ Around zero plus le E k (λ x. k < x) i j s

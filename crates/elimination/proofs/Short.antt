@@ -53,9 +53,9 @@ pigeons zero [] d h = omega arith
 pigeons zero (x ∷ xs) d h = let l = h x (inl refl) in absurd (omega arith)
 pigeons (suc n) xs d h = elim (member? n xs) [
   | yes m ↦
-    let (p, q) = without-distinct n xs m d in
-    let l = pigeons n (without n xs m) p (λ x i. below x (h x (without-member n xs m x i)) (λ e. q (rw e at i))) in
-    omega (arith, without-length n xs m)
+      let (p, q) = without-distinct n xs m d in
+      let l = pigeons n (without n xs m) p (λ x i. below x (h x (without-member n xs m x i)) (λ e. q (rw e at i))) in
+      omega (arith, without-length n xs m)
   | no q ↦ let l = pigeons n xs d (λ x i. below x (h x i) (λ e. q (rw e at i))) in omega arith
 ]
   where

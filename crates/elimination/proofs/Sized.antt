@@ -15,7 +15,7 @@ use Rattle.elimination.specs.Simple.Row.{stop, on}
 use Rattle.elimination.proofs.Order.{unit-right, drop-front, drop-back, mono-right, le-eq}
 use Rattle.elimination.proofs.Rows.{join, loosen, cut}
 use Rattle.elimination.proofs.Short.{simple, pigeons}
-use Rattle.elimination.specs.Sizes.{Measured, Net, Single, StaysSmall}
+use Rattle.elimination.specs.Sizes.{Measured, Net}
 
 module _ {A : Type 0} {nil : A} {plus : A → A → A} {le : A → A → Type 0} (L : Amounts nil plus le) {E : ℕ → ℕ → A → Type 0} where
   -- a row of two events or more is a walk
@@ -42,7 +42,7 @@ module _ {A : Type 0} {nil : A} {plus : A → A → A} {le : A → A → Type 0}
       let z : size s ≡ size (plus a t) = ap size q in
       omega arith
 
-  -- all loops over the events from k on come to nothing at least, wherever they begin
+  -- all loops over the events from k on sum to zero at least, wherever they begin
   module _ (n k : ℕ) (within : (i j : ℕ) (a : A) → E i j a → (i < n) × (j < n)) where
     none-past : {X : Type 0} {x y : ℕ} {s : A} → n ≤ x → Walk plus E (λ z. n ≤ z) x y s → X
     none-past h (one e) = let t = within _ _ _ e in absurd (omega arith)
@@ -98,7 +98,7 @@ module _ {A : Type 0} {plus : A → A → A} (E : ℕ → ℕ → A → Type 0) 
 
 module _ {A : Type 0} {nil : A} {plus : A → A → A} {le : A → A → Type 0} (L : Amounts nil plus le) {size : A → ℕ} (Z : Measured nil plus le size) {E : ℕ → ℕ → A → Type 0} (n : ℕ) (net : Net nil le size E n) where
   -- what is exact over walks whose loops are calm is small
-  pub exact-size : {P : ℕ → Type 0} {R : A → Type 0} (i j : ℕ) → i ≢ j → ((x : ℕ) (s : A) → Walk plus E P x x s → le nil s) → Exact nil plus le E P R i j → ((a b : A) → R a → R b → a ≡ b) → i < n → (a : A) → R a → size a ≤ n * 2 ^ 40
+  pub exact-size : {P : ℕ → Type 0} {R : A → Type 0} (i j : ℕ) → i ≢ j → ((x : ℕ) (s : A) → Walk plus E P x x s → le nil s) → Exact nil plus le E P R i j → ((a b : A) → R a → R b → a ≡ b) → i < n → (a : A) → R a → size a + 2 ^ 40 ≤ n * 2 ^ 40
   exact-size {P} i j d calm x single h a r =
       let c = simple L {E = Leg E P i j} (λ y s w. calm y s (widen E P i j d w)) (narrow E P i j (x .sound a r) refl (inr refl)) in
       let (b, t, l) = x .least (c .sum) (widen E P i j d (from-row L (c .row) d)) in
@@ -109,20 +109,16 @@ module _ {A : Type 0} {nil : A} {plus : A → A → A} {le : A → A → Type 0}
       let o = pigeons n (c .names) (c .once) (names-within L n (λ x y b e. net .within x y b (e .0)) (c .row) h) in
       omega arith
 
-pub stays-small : {A : Type 0} {nil : A} {plus : A → A → A} {le : A → A → Type 0} → Amounts nil plus le → {size : A → ℕ} → Measured nil plus le size → StaysSmall nil plus le size
-stays-small L Z n k E W single net h inv i j a hi hj d w =
-    exact-size L Z n net i j d (all-calm L n k (net .within) inv h) (inv .worked .pair i j hi hj d) (single i j) (omega arith) a w
-
 module _ {A : Type 0} {nil : A} {plus : A → A → A} {le : A → A → Type 0} (L : Amounts nil plus le) {size : A → ℕ} (Z : Measured nil plus le size) {E : ℕ → ℕ → A → Type 0} (n : ℕ) (net : Net nil le size E n) {W : ℕ → ℕ → A → Type 0} (inv : Kept nil plus le E n 0 W) where
-  -- after the elimination no loop at all comes to less than nothing
+  -- after the elimination no loop at all sums to less than zero
   pub no-loops : {P : ℕ → Type 0} (x : ℕ) (s : A) → Walk plus E P x x s → le nil s
   no-loops x s w = all-calm L n 0 (net .within) inv (omega arith) x s (loosen (λ y h. omega arith) w)
 
-  pub swept-small : (k : ℕ) {D : ℕ → ℕ → A → Type 0} → Swept nil plus le E k D → (i j : ℕ) → ((a b : A) → D i j a → D i j b → a ≡ b) → k ≤ n → i < k → j < k → i ≢ j → (a : A) → D i j a → size a ≤ n * 2 ^ 40
+  pub swept-small : (k : ℕ) {D : ℕ → ℕ → A → Type 0} → Swept nil plus le E k D → (i j : ℕ) → ((a b : A) → D i j a → D i j b → a ≡ b) → k ≤ n → i < k → j < k → i ≢ j → (a : A) → D i j a → size a + 2 ^ 40 ≤ n * 2 ^ 40
   swept-small k s i j single h p q d a v = exact-size L Z n net i j d no-loops (s .pair i j p q d) single (omega arith) a v
 
-  pub into-small : (k j : ℕ) → ((a b : A) → W j k a → W j k b → a ≡ b) → k < n → j < k → (a : A) → W j k a → size a ≤ n * 2 ^ 40
+  pub into-small : (k j : ℕ) → ((a b : A) → W j k a → W j k b → a ≡ b) → k < n → j < k → (a : A) → W j k a → size a + 2 ^ 40 ≤ n * 2 ^ 40
   into-small k j single h p a w = exact-size L Z n net j k (omega arith) no-loops (inv .rings k (omega arith) h .into j p) single (omega arith) a w
 
-  pub out-small : (k j : ℕ) → ((a b : A) → W k j a → W k j b → a ≡ b) → k < n → j < k → (a : A) → W k j a → size a ≤ n * 2 ^ 40
+  pub out-small : (k j : ℕ) → ((a b : A) → W k j a → W k j b → a ≡ b) → k < n → j < k → (a : A) → W k j a → size a + 2 ^ 40 ≤ n * 2 ^ 40
   out-small k j single h p a w = exact-size L Z n net k j (omega arith) no-loops (inv .rings k (omega arith) h .out j p) single (omega arith) a w

@@ -1,4 +1,4 @@
--- One step of the elimination, and one of the sweep.
+-- One step of the elimination.
 use mathlib.Core.Path.{_≡_, refl, sym, ap, _∙_, subst}
 use mathlib.Core.Logic.{_⊎_, inl, inr, _≢_}
 use Prim.Native.Nat.{ℕ, _≤_, _<_, suc}

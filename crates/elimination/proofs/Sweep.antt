@@ -30,16 +30,16 @@ module _ {A : Type 0} {zero : A} {plus : A → A → A} {le : A → A → Type 0
     into-k j s h w = elim (cut L k (ring .loops) w) [
       | inl c ↦ let (a, v, l) = ring .into j h .least (c .sum) (c .row) in (a, v, L .trans _ _ _ l (c .less))
       | inr c ↦
-        let (a, v, l) = ring .into j h .least (c .front) (c .before) in
-        (a, v, L .trans _ _ _ l (L .trans _ _ _ (drop-back L _ _ (ring .loops _ (c .after))) (c .less)))
+          let (a, v, l) = ring .into j h .least (c .front) (c .before) in
+          (a, v, L .trans _ _ _ l (L .trans _ _ _ (drop-back L _ _ (ring .loops _ (c .after))) (c .less)))
     ]
 
     out-k : (j : ℕ) (s : A) → j < k → Walk plus E (λ x. k ≤ x) k j s → (a : A) × W k j a × le a s
     out-k j s h w = elim (cut L k (ring .loops) w) [
       | inl c ↦ let (a, v, l) = ring .out j h .least (c .sum) (c .row) in (a, v, L .trans _ _ _ l (c .less))
       | inr c ↦
-        let (a, v, l) = ring .out j h .least (c .back) (c .after) in
-        (a, v, L .trans _ _ _ l (L .trans _ _ _ (drop-front L _ _ (ring .loops _ (c .before))) (c .less)))
+          let (a, v, l) = ring .out j h .least (c .back) (c .after) in
+          (a, v, L .trans _ _ _ l (L .trans _ _ _ (drop-front L _ _ (ring .loops _ (c .before))) (c .less)))
     ]
 
     loop-k : (s : A) → Walk plus E (λ x. k ≤ x) k k s → le zero s
@@ -58,27 +58,27 @@ module _ {A : Type 0} {zero : A} {plus : A → A → A} {le : A → A → Type 0
     into-least : (i : ℕ) (s : A) → i < k → Walk plus E Any i k s → (a : A) × D i k a × le a s
     into-least i s h w = elim (last L (side k) w) [
       | inl v ↦
-        let (c, x, l) = into-k i s h v in
-        let (a, y, m) = next .into-tries i i zero c h h (swept .self i h) x in
-        (a, y, L .trans _ _ _ (rw (L .unit c) at m) l)
+          let (c, x, l) = into-k i s h v in
+          let (a, y, m) = next .into-tries i i zero c h h (swept .self i h) x in
+          (a, y, L .trans _ _ _ (rw (L .unit c) at m) l)
       | inr p ↦
-        let (c, x, l) = into-k (p .at) (p .back) (p .there) (p .after) in
-        let (b, z, o) = reach i (p .at) (p .front) h (p .there) (p .before) in
-        let (a, y, m) = next .into-tries i (p .at) b c h (p .there) z x in
-        (a, y, rw (p .sums) (L .trans _ _ _ m (mono-both L _ _ _ _ o l)))
+          let (c, x, l) = into-k (p .at) (p .back) (p .there) (p .after) in
+          let (b, z, o) = reach i (p .at) (p .front) h (p .there) (p .before) in
+          let (a, y, m) = next .into-tries i (p .at) b c h (p .there) z x in
+          (a, y, rw (p .sums) (L .trans _ _ _ m (mono-both L _ _ _ _ o l)))
     ]
 
     out-least : (i : ℕ) (s : A) → i < k → Walk plus E Any k i s → (a : A) × D k i a × le a s
     out-least i s h w = elim (first L (side k) w) [
       | inl v ↦
-        let (c, x, l) = out-k i s h v in
-        let (a, y, m) = next .out-tries i i c zero h h x (swept .self i h) in
-        (a, y, L .trans _ _ _ (rw (L .comm c zero, L .unit c) at m) l)
+          let (c, x, l) = out-k i s h v in
+          let (a, y, m) = next .out-tries i i c zero h h x (swept .self i h) in
+          (a, y, L .trans _ _ _ (rw (L .comm c zero, L .unit c) at m) l)
       | inr p ↦
-        let (c, x, l) = out-k (p .at) (p .front) (p .there) (p .before) in
-        let (b, z, o) = reach (p .at) i (p .back) (p .there) h (p .after) in
-        let (a, y, m) = next .out-tries i (p .at) c b h (p .there) x z in
-        (a, y, rw (p .sums) (L .trans _ _ _ m (mono-both L _ _ _ _ l o)))
+          let (c, x, l) = out-k (p .at) (p .front) (p .there) (p .before) in
+          let (b, z, o) = reach (p .at) i (p .back) (p .there) h (p .after) in
+          let (a, y, m) = next .out-tries i (p .at) c b h (p .there) x z in
+          (a, y, rw (p .sums) (L .trans _ _ _ m (mono-both L _ _ _ _ l o)))
     ]
 
     into-sound : (i : ℕ) (a : A) → i < k → D i k a → Walk plus E Any i k a

@@ -80,14 +80,7 @@ module _ {A : Type 0} (zero : A) (plus : A → A → A) (le : A → A → Type 0
     pub only : (a : A) → D k k a → a ≡ zero
 
 module _ {A : Type 0} (zero : A) (plus : A → A → A) (le : A → A → Type 0) (E : ℕ → ℕ → A → Type 0) where
-  -- the matrix that is worked in place: the events from k on are gone, and each left its ring
+  -- the table that is worked in place: the events from k on are gone, and each left its ring
   pub record Kept (n k : ℕ) (W : ℕ → ℕ → A → Type 0) : Type 0 where
     pub worked : Worked zero plus le E k W
     pub rings : (m : ℕ) → k ≤ m → m < n → Ring zero plus le E m W
-
-  -- a loop that comes to less than nothing
-  pub record Broken : Type 0 where
-    pub at : ℕ
-    pub sum : A
-    pub row : Walk plus E Any at at sum
-    pub negative : ¬ (le zero sum)

@@ -3,3 +3,5 @@ pub mod Outcomes
 pub mod Soundness
 pub mod Neighbourhoods
 pub mod RankingWhole
+pub mod Closings
+pub mod Askings

@@ -17,6 +17,8 @@ use Rattle.marks.specs.declared.set.Marks.{Marks}
 use Rattle.marks.specs.Sets.{has}
 use Rattle.marks.proofs.Words.{by-word, on-none}
 use Rattle.order.specs.Neighbours.{graph-of, no-marks}
+use Rattle.order.specs.declared.counts.Counts.{Counts}
+use Rattle.order.specs.Counted.{counts-of}
 use Rattle.order.specs.Ranking.{Ranked, ranking}
 use Rattle.table.specs.declared.cell.Cell.{Cell}
 use Rattle.table.specs.Cells.{at-cell, amount-of, bounds, neighbours}
@@ -117,3 +119,6 @@ ranked-moved t G H m n events e f g h = subst (λ F. Ranked n F events) (fun-ext
 -- no event is in the empty set
 pub blank : (j : ℕ) → has no-marks j ≡ false
 blank j = by-word j _ _ false (λ p. on-none j) (λ p s. on-none (j - 64)) (λ p. refl)
+
+pub counts-moved : (t : List Marks) (G H : ℕ → ℕ → Bool) (n : ℕ) (events : List ℕ) (counts : Counts) → ((i j : ℕ) → graph-of t i j ≡ G i j) → G ≡ H → counts ≡ counts-of n (graph-of t) events → counts ≡ counts-of n H events
+counts-moved t G H n events counts f g h = h ∙ ap (λ F. counts-of n F events) (fun-ext (λ i. fun-ext (λ j. f i j)) ∙ g)

@@ -28,7 +28,7 @@ use Rattle.net.specs.declared.mode.Mode.{Mode}
 use Rattle.net.specs.declared.mode.Mode.the-variants.{Open, Closed}
 use Rattle.net.specs.Limits.{most-events, cells-needed, most-size}
 use Rattle.net.specs.Refusals.{Reason, by, answered}
-use Rattle.net.specs.State.{State, Outcome, outcome, refused, accepted, need, unbound, with-bound, lesser, both-events, begun, required, withdrawn, bound-told, made, reordered, lack, ordered-by, arranged, ranked}
+use Rattle.net.specs.State.{State, Outcome, outcome, refused, accepted, need, unbound, with-bound, lesser, both-events, paired, begun, required, withdrawn, bound-told, made, reordered, lack, ordered-by, arranged, ranked}
 use Rattle.net.specs.Lacks.{refusal-of}
 use Rattle.net.proofs.BoundsHeld.{bounds-within, bounds-cleared, bounds-put}
 
@@ -56,9 +56,6 @@ events-no n i j o = ⊎-elim (λ l. and-left (ltb i n) (ltb j n) (le-ltb i n l))
 
 differ : (i j : ℕ) → (i ≡ j → ⊥) → not (eqb i j) ≡ true
 differ i j ne = not-from-false (eqb i j) (ne-eqb i j ne)
-
-equal : (i j : ℕ) → i ≡ j → not (eqb i j) ≡ false
-equal i j e = not-from-true (eqb i j) (eq-eqb i j e)
 
 range-yes : (n : ℕ) → 1 ≤ n → n ≤ 128 → (ltb 0 n && leb n most-events) ≡ true
 range-yes n p q = and-from (ltb 0 n) (leb n most-events) (lt-ltb 0 n p) (le-leb n 128 q)
@@ -90,14 +87,36 @@ begin-done amount cells n s xs ys order p q l e f =
     met _ 1 s _ _ (range-yes n p q) (met _ 2 s _ _ (le-leb (n * n) cells l)
     (ap accepted (same-state n n _ _ _ _ Open refl (ap (bounds amount n) e ∙ bounds-cleared amount n xs) f)))
 
--- require
-pub require-events : (A : Arithmetic) (i j : ℕ) (w : List ℤ) (s : State) → (s .events ≤ i) ⊎ (i < s .events) × (s .events ≤ j) → refused 3 s ≡ required A i j w s
-unfolding required
-require-events A i j w s o = unmet _ 3 s _ (events-no (s .events) i j o)
+-- two events that a bound can join, or not
+pub pair-events : (n i j : ℕ) → (n ≤ i) ⊎ (i < n) × (n ≤ j) → Err (by 3) ≡ paired n i j
+unfolding paired
+pair-events n i j o = sym (cond-false (ltb i n && ltb j n) _ _ (events-no n i j o))
 
-pub require-same : (A : Arithmetic) (i j : ℕ) (w : List ℤ) (s : State) → i < s .events → j < s .events → i ≡ j → refused 4 s ≡ required A i j w s
+pub pair-same : (n i j : ℕ) → i < n → j < n → i ≡ j → Err (by 4) ≡ paired n i j
+unfolding paired
+pair-same n i j p q e = sym (cond-true (ltb i n && ltb j n) _ _ (events-yes n i j p q) ∙ cond-true (eqb i j) _ _ (eq-eqb i j e))
+
+pub pair-good : (n i j : ℕ) → i < n → j < n → (i ≡ j → ⊥) → Ok tt ≡ paired n i j
+unfolding paired
+pair-good n i j p q ne = sym (cond-true (ltb i n && ltb j n) _ _ (events-yes n i j p q) ∙ cond-false (eqb i j) _ _ (ne-eqb i j ne))
+
+not-ok : (x : Reason) → _≡_ {A = Result (Unit {0}) Reason} (Err x) (Ok tt) → ⊥
+not-ok x e = let z : _≡_ {A = ℕ} 0 1 = cc in omega arith
+
+pair-refused : (i j : ℕ) (s : State) (x : Reason) (further : Outcome) → Err x ≡ paired (s .events) i j → outcome (Err x) s ≡ need (both-events s i j) 3 s (need (not (eqb i j)) 4 s further)
+unfolding paired
+pair-refused i j s x further e = ⊎-elim
+    (λ t. ⊎-elim
+      (λ u. ap (λ r. outcome r s) (e ∙ cond-true (both-events s i j) _ _ t ∙ cond-true (eqb i j) _ _ u) ∙ met _ 3 s _ _ t (unmet _ 4 s further (not-from-true (eqb i j) u)))
+      (λ u. absurd (not-ok x (e ∙ cond-true (both-events s i j) _ _ t ∙ cond-false (eqb i j) _ _ u)))
+      (cases-bool (eqb i j)))
+    (λ t. ap (λ r. outcome r s) (e ∙ cond-false (both-events s i j) _ _ t) ∙ unmet _ 3 s _ t)
+    (cases-bool (both-events s i j))
+
+-- require
+pub require-pair : (A : Arithmetic) (i j : ℕ) (w : List ℤ) (s : State) (x : Reason) → Err x ≡ paired (s .events) i j → outcome (Err x) s ≡ required A i j w s
 unfolding required
-require-same A i j w s p q e = met _ 3 s _ _ (events-yes (s .events) i j p q) (unmet _ 4 s _ (equal i j e))
+require-pair A i j w s x e = pair-refused i j s x _ e
 
 pub require-large : (A : Arithmetic) (i j : ℕ) (w : List ℤ) (s : State) → i < s .events → j < s .events → (i ≡ j → ⊥) → most-size < A .size w → refused 11 s ≡ required A i j w s
 unfolding required
@@ -119,13 +138,9 @@ pub keeps-old : (A : Arithmetic) → Lawful A → (v w : List ℤ) → Amount A 
 keeps-old A L v w a b greater = sym (cond-true (A .at-most v w) v w (⊎-elim (λ h. h) (λ h. absurd (both-ways (A .at-most w v) greater h)) (L .total v w a b)))
 
 -- withdraw
-pub withdraw-events : (i j : ℕ) (s : State) → (s .events ≤ i) ⊎ (i < s .events) × (s .events ≤ j) → refused 3 s ≡ withdrawn i j s
+pub withdraw-pair : (i j : ℕ) (s : State) (x : Reason) → Err x ≡ paired (s .events) i j → outcome (Err x) s ≡ withdrawn i j s
 unfolding withdrawn
-withdraw-events i j s o = unmet _ 3 s _ (events-no (s .events) i j o)
-
-pub withdraw-same : (i j : ℕ) (s : State) → i < s .events → j < s .events → i ≡ j → refused 4 s ≡ withdrawn i j s
-unfolding withdrawn
-withdraw-same i j s p q e = met _ 3 s _ _ (events-yes (s .events) i j p q) (unmet _ 4 s _ (equal i j e))
+withdraw-pair i j s x e = pair-refused i j s x _ e
 
 some-amount : {K : Type 0} (amount : K → List ℤ) (o : Option K) → isSome (amount-of amount o) ≡ isSome o
 some-amount amount None = refl

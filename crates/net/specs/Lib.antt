@@ -3,3 +3,7 @@ pub mod Refusals
 pub mod State
 pub mod Told
 pub mod Lacks
+pub mod Kept
+pub mod Closing
+pub mod Asking
+pub mod Times

@@ -82,6 +82,10 @@ lesser A (Some v) w = cond (A .at-most v w) v w
 abbrev pub both-events : State → ℕ → ℕ → Bool
 both-events s i j = ltb i (s .events) && ltb j (s .events)
 
+-- whether a bound can join i and j among n events, and why not
+unfoldable pub paired : (n i j : ℕ) → Result (Unit {0}) Reason
+paired n i j = cond (ltb i n && ltb j n) (cond (eqb i j) (Err (by 4)) (Ok tt)) (Err (by 3))
+
 -- a net just made
 abbrev pub made : State
 made = record { events = 0; bounds = unbound; order = []; mode = Open }
@@ -142,6 +146,11 @@ ranked s = accepted (reordered s (ranking (s .events) (neighbours (s .bounds)) (
 -- the bound in force from i to j is told; an event has none to itself
 unfoldable pub bound-told : (i j : ℕ) → State → Result (Option (List ℤ)) Reason
 bound-told i j s = cond (both-events s i j) (Ok (s .bounds i j)) (Err (by 3))
+
+-- a refused call leaves the whole net as it was, the rest of its table included
+abbrev pub Untouched : {T E N : Type 0} → Result T E → N → N → Type 0
+Untouched (Ok x) before after = Unit {0}
+Untouched (Err e) before after = after ≡ before
 
 -- what every net keeps to, from its making on
 pub record Sound (A : Arithmetic) (s : State) : Type 0 where

@@ -2,5 +2,6 @@
 pub mod refusal;
 pub mod mode;
 pub mod links;
+pub mod earliest;
 pub mod lent;
 pub mod net;

@@ -1,15 +1,18 @@
-// The neighbours of each event, and the ordering by fewest of them.
+// The neighbours of each event, the ordering by fewest of them, and what an elimination counts.
 ghost use mathlib.Core.Path.{_≡_};
-ghost use Prim.Native.Nat.{ℕ, _*_, _<_, _≤_};
+ghost use Prim.Native.Nat.{ℕ, _-_, _*_, _/_, _<_, _≤_};
 ghost use lib.ListN.{length};
 ghost use Rattle.marks.specs.Sets.{has};
 ghost use Rattle.order.specs.Orderings.{events-of};
 ghost use Rattle.order.specs.Neighbours.{graph-of};
+ghost use Rattle.order.specs.Counted.{counts-of};
 ghost use Rattle.order.specs.Ranking.{Ranked, ranking};
 ghost use Rattle.table.specs.Cells.{bounds};
 ghost use Rattle.table.specs.Cells as cells-spec;
 use kinds::kind::Kind;
 use marks::set::Marks;
+use order::counts::Counts;
+use order::eliminating::count_elimination;
 use order::event_order::EventOrder;
 use order::rank::rank;
 use table::cell::Cell;
@@ -74,4 +77,16 @@ pub fn by_fewest<K: Kind>(cells: &[Cell<K>], n: usize) -> EventOrder
     let part = &mut near[..n];
     gather(cells, part);
     rank(part)
+}
+
+// What an elimination in the ordering counts.
+pub fn counts<K: Kind>(cells: &[Cell<K>], order: &EventOrder) -> Counts
+    requires fits { ⌜ now order .count * now order .count ≤ length (now cells) ⌝ }
+    ensures value { λ r. ⌜ r ≡ counts-of (now (order .entry) .count) (cells-spec.neighbours (bounds (K·Kind .amount) (now (order .entry) .count) (now (cells .entry)))) (events-of (now (order .entry))) ⌝ }
+    ensures bounded { λ r. ⌜ r .looks ≤ r .width * now (order .entry) .count * (now (order .entry) .count - 1) / 2 ⌝ }
+{
+    let mut near = [Marks::none(); 128];
+    let part = &mut near[..order.count];
+    gather(cells, part);
+    count_elimination(part, order)
 }

@@ -1,5 +1,5 @@
 // Whether a net is open or closed.
-#[derive(Clone, Copy)]
+#[derive(Clone, Copy, Debug, PartialEq, Eq)]
 pub enum Mode {
     Open,
     Closed,

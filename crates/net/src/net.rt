@@ -8,8 +8,13 @@ use super::lent::Table;
 use super::mode::Mode;
 use order::event_order::EventOrder;
 
-pub mod calls;
+pub mod making;
+pub mod laying;
+pub mod ordering;
 pub mod questions;
+pub mod close;
+pub mod distances;
+pub mod times;
 
 #[derive(Drop)]
 pub struct Net<'t, K> {

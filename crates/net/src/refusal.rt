@@ -3,7 +3,9 @@ ghost use mathlib.Core.Path.{_≡_};
 ghost use Rattle.net.specs.Lacks.{refusal-of};
 use order::event_order::Misordered;
 
-#[derive(Clone, Copy)]
+pub mod number;
+
+#[derive(Clone, Copy, Debug, PartialEq, Eq)]
 pub enum Refusal {
     // the number of events is not from 1 to 128
     EventsOutOfRange,

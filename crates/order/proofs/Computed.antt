@@ -1,7 +1,7 @@
 -- The computed ranking is the only one by the rule.
 use mathlib.Core.Path.{_≡_, refl, sym, ap, _∙_, subst}
 use mathlib.Core.List.{List, [], _∷_}
-use mathlib.Core.Bool.{Bool, true, cond}
+use mathlib.Core.Bool.{Bool, true, false, cond}
 use mathlib.Core.Logic.{⊎-elim}
 use Prim.Native.Nat.{ℕ, zero, suc, _<_, _≤_}
 use native.Mathlib.Omega.{arith}
@@ -11,9 +11,12 @@ use Rattle.std.specs.declared.option.Option.{Option}
 use Rattle.std.specs.declared.option.Option.the-variants.{Some, None}
 use Rattle.std.specs.Options.{Cases}
 use Rattle.std.proofs.shelf.Tests.{cases-eq, cond-both, cond-true, cond-false, le-ltb, ltb-false}
+use Rattle.marks.specs.declared.set.Marks.{Marks}
+use Rattle.marks.specs.Sets.{has}
 use Rattle.order.specs.Orderings.{stretch}
 use Rattle.order.specs.Elimination.{Graph, left, degree, after}
 use Rattle.order.specs.Ranking.{Ranked, ranking, best, better, put}
+use Rattle.order.specs.Neighbours.{Chosen, free-degree}
 use Rattle.order.proofs.Stretches.{stretch-length}
 use Rattle.order.proofs.Eliminations.{left-below}
 
@@ -63,3 +66,13 @@ computed n graph (e ∷ gone) h =
 
 pub computed-whole : (n : ℕ) (graph : Graph) (events : List ℕ) → Ranked n graph (stretch events 0 n) → stretch events 0 n ≡ ranking n graph n
 computed-whole n graph events h = computed n graph (stretch events 0 n) h ∙ ap (ranking n graph) (stretch-length events 0 n)
+
+best-none : (cost : ℕ → ℕ) (may : ℕ → Bool) (k : ℕ) → ((x : ℕ) → may x ≡ false) → best cost may k ≡ None
+unfolding best
+best-none cost may zero h = refl
+best-none cost may (suc k) h = cond-false (may k) _ _ (h k) ∙ best-none cost may k h
+
+-- what is chosen among marks is the best computed
+pub chosen-best : (sets : List Marks) (free : Marks) (n : ℕ) (found : Option ℕ) → Cases found ((x : ℕ) → has free x ≡ false) (Chosen sets free n) → found ≡ best (free-degree sets free) (has free) n
+chosen-best sets free n None h = sym (best-none (free-degree sets free) (has free) n h)
+chosen-best sets free n (Some e) h = sym (best-is (free-degree sets free) (has free) n e (h .below) (h .here) (h .least) (h .lowest))

@@ -47,11 +47,12 @@ none-left false = refl
 
 pub pairing-starts : (sets : List Marks) (members seen : Marks) → ((q : ℕ) → has seen q ≡ false) → Pairing sets members members seen 0
 pairing-starts sets members seen none = record {
-    part = λ q h. h;
-    seen-is = λ q. none q ∙ none-left (has members q);
-    ascending = λ x y h l. absurd (both-ways (has seen x) (none x) h);
-    counted = λ k low high. sym (pairs-none _ k (λ i j l. ap (λ b. (b && has members j) && not (graph-of sets i j)) (low i l)));
-    bounded = omega (arith, count-le (has members) 128) }
+  part = λ q h. h;
+  seen-is = λ q. none q ∙ none-left (has members q);
+  ascending = λ x y h l. absurd (both-ways (has seen x) (none x) h);
+  counted = λ k low high. sym (pairs-none _ k (λ i j l. ap (λ b. (b && has members j) && not (graph-of sets i j)) (low i l)));
+  bounded = omega (arith, count-le (has members) 128);
+}
 
 one-gone : (m r e : Bool) → (e ≡ true → m ≡ true) → ((m && not r) || e) ≡ (m && not (r && not e))
 one-gone true true true h = refl
@@ -78,32 +79,33 @@ pairing-turn sets members rest rest' seen seen' news total d e small on low f g 
     let still : (q : ℕ) → has rest' q ≡ true → has rest q ≡ true = λ q r. and-parts (has rest q) (not (eqb q e)) (sym (f q) ∙ r) .0 in
     let other : (q : ℕ) → has rest' q ≡ true → q ≡ e → ⊥ = λ q r same. both-ways (eqb q e) (not-true (eqb q e) (and-parts (has rest q) (not (eqb q e)) (sym (f q) ∙ r) .1)) (eq-eqb q e same) in
     let seen-is' : (q : ℕ) → has seen' q ≡ (has members q && not (has rest' q)) = λ q. s q ∙ ap (λ b. b || eqb q e) (h .seen-is q)
-      ∙ one-gone (has members q) (has rest q) (eqb q e) (λ t. ap (has members) (eqb-true q e t) ∙ mine) ∙ ap (λ b. has members q && not b) (sym (f q)) in
+    ∙ one-gone (has members q) (has rest q) (eqb q e) (λ t. ap (has members) (eqb-true q e t) ∙ mine) ∙ ap (λ b. has members q && not b) (sym (f q)) in
     let unseen : (q : ℕ) → e ≤ q → has seen q ≡ false = λ q l. ⊎-elim (λ t. absurd (omega (arith, h .ascending q e t on))) (λ t. t) (cases-bool (has seen q)) in
     let old : total ≡ pairs p e = h .counted e low unseen in
     let below : (j : ℕ) → j < e → has seen j ≡ has members j = λ j l. h .seen-is j ∙ ap (λ b. has members j && not b) (low j l) ∙ keep (has members j) in
     let new : d ≡ how-many (p e) e = de ∙ count-up (has news) e 128 (omega arith) (λ j l. g j ∙ ap (λ b. b && not (graph-of sets e j)) (unseen j l))
-      ∙ count-agree (has news) (p e) e (λ j l. g j ∙ ap (λ b. b && not (graph-of sets e j)) (below j l) ∙ with-one (has members e) (has members j) (not (graph-of sets e j)) mine) in
+    ∙ count-agree (has news) (p e) e (λ j l. g j ∙ ap (λ b. b && not (graph-of sets e j)) (below j l) ∙ with-one (has members e) (has members j) (not (graph-of sets e j)) mine) in
     let now-seen : has seen' e ≡ true = s e ∙ or-right (has seen e) (eqb e e) (eq-eqb e e refl) in
     let past : (k : ℕ) → ((q : ℕ) → q < k → has rest' q ≡ false) → (i : ℕ) → suc e ≤ i → i < k → has members i ≡ false = λ k lo i a b. ⊎-elim
-      (λ m. let t : has seen' i ≡ true = seen-is' i ∙ ap₂ (λ x y. x && not y) m (lo i b) in
-        absurd (⊎-elim (λ old-one. omega (arith, h .ascending i e old-one on)) (λ same. omega (arith, eqb-true i e same)) (or-cases (has seen i) (eqb i e) (sym (s i) ∙ t))))
-      (λ m. m) (cases-bool (has members i)) in
+    (λ m. let t : has seen' i ≡ true = seen-is' i ∙ ap₂ (λ x y. x && not y) m (lo i b) in
+    absurd (⊎-elim (λ old-one. omega (arith, h .ascending i e old-one on)) (λ same. omega (arith, eqb-true i e same)) (or-cases (has seen i) (eqb i e) (sym (s i) ∙ t))))
+    (λ m. m) (cases-bool (has members i)) in
     record {
       part = λ q r. h .part q (still q r);
       seen-is = seen-is';
       ascending = λ x y a r. ⊎-elim
-        (λ t. h .ascending x y t (still y r))
-        (λ same. let ne : y ≡ e → ⊥ = other y r in let xe : x ≡ e = eqb-true x e same in
+          (λ t. h .ascending x y t (still y r))
+          (λ same. let ne : y ≡ e → ⊥ = other y r in let xe : x ≡ e = eqb-true x e same in
           ⊎-elim (λ l. absurd (both-ways (has rest y) (low y l) (still y r))) (λ l. ⊎-elim (λ z. absurd (ne z)) (λ nz. omega arith) (cases-eq y e)) (cases-lt y e))
-        (or-cases (has seen x) (eqb x e) (sym (s x) ∙ a));
+          (or-cases (has seen x) (eqb x e) (sym (s x) ∙ a));
       counted = λ k lo hi.
-        let le : e < k = ⊎-elim (λ l. l) (λ l. absurd (both-ways (has seen' e) (hi e l) now-seen)) (cases-lt e k) in
-        ap₂ (λ x y. x + y) old new ∙ sym (pairs-more p e)
-        ∙ sym (pairs-skip p (suc e) k (omega arith) (λ i j a b. no-row (has members i) (has members j) (not (graph-of sets i j)) (past k lo i a b)));
+          let le : e < k = ⊎-elim (λ l. l) (λ l. absurd (both-ways (has seen' e) (hi e l) now-seen)) (cases-lt e k) in
+          ap₂ (λ x y. x + y) old new ∙ sym (pairs-more p e)
+          ∙ sym (pairs-skip p (suc e) k (omega arith) (λ i j a b. no-row (has members i) (has members j) (not (graph-of sets i j)) (past k lo i a b)));
       bounded =
-        let c : how-many (has rest') 128 ≡ how-many (λ x. has rest x && not (eqb x e)) 128 = ap (λ u. how-many u 128) (fun-ext f) in
-        omega (arith, h .bounded, count-without (has rest) e 128 on small) }
+          let c : how-many (has rest') 128 ≡ how-many (λ x. has rest x && not (eqb x e)) 128 = ap (λ u. how-many u 128) (fun-ext f) in
+          omega (arith, h .bounded, count-without (has rest) e 128 on small);
+    }
 
 pub pairing-ends : (sets : List Marks) (members rest seen : Marks) (total n : ℕ) → ((q : ℕ) → has rest q ≡ false) → ((q : ℕ) → has members q ≡ true → q < n) → Pairing sets members rest seen total
     → total ≡ pairs (not-joined (graph-of sets) (has members)) n

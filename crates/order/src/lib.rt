@@ -5,3 +5,5 @@ pub mod event_order;
 pub mod making;
 pub mod neighbours;
 pub mod rank;
+#[cfg(test)]
+mod tests;

@@ -6,7 +6,8 @@ ghost use lib.ListN.{length};
 ghost use Rattle.std.specs.Options.{Cases};
 ghost use Rattle.marks.specs.Sets.{has};
 ghost use Rattle.order.specs.Elimination.{joined};
-ghost use Rattle.order.specs.Neighbours.{graph-of, Chosen};
+ghost use Rattle.order.specs.Neighbours.{graph-of, free-degree, Chosen};
+ghost use Rattle.order.specs.Ranking.{best};
 use marks::set::Marks;
 
 // All members become neighbours of each other.
@@ -24,7 +25,8 @@ pub fn join(near: &mut [Marks], members: Marks)
 // The member of `free` with fewest neighbours in it, the lowest among equals.
 pub fn fewest(near: &[Marks], free: Marks) -> Option<usize>
     requires { ⌜ ((q : ℕ) → has free q ≡ true → q < length (now near)) ⌝ }
-    ensures { λ r. ⌜ Cases r ((x : ℕ) → has free x ≡ false) (λ e. Chosen (now (near .entry)) free (length (now (near .entry))) e) ⌝ }
+    ensures value { λ r. ⌜ r ≡ best (free-degree (now (near .entry)) free) (has free) (length (now (near .entry))) ⌝ }
+    ensures chosen { λ r. ⌜ Cases r ((x : ℕ) → has free x ≡ false) (λ e. Chosen (now (near .entry)) free (length (now (near .entry))) e) ⌝ }
 {
     let mut best = None;
     let mut least = 129;

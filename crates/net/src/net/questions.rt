@@ -3,6 +3,7 @@ ghost use mathlib.Core.Path.{_≡_};
 ghost use Rattle.order.specs.Orderings.{event-of-rank, rank-of-event};
 ghost use Rattle.net.specs.Refusals.{answered};
 ghost use Rattle.net.specs.State.{state, bound-told};
+ghost use Rattle.net.specs.State as spec;
 ghost use Rattle.net.specs.Told.{amounts-told, shut};
 use super::Net;
 use super::super::mode::Mode;
@@ -14,6 +15,13 @@ impl<'t, K: Kind> Net<'t, K> {
         ensures { λ r. ⌜ r ≡ state (K·Kind .amount) (now (self .entry)) .events ⌝ }
     {
         self.events
+    }
+
+    // How many cells the net was made over.
+    pub fn room(&self) -> usize
+        ensures { λ r. ⌜ r ≡ spec.room (now (self .entry)) ⌝ }
+    {
+        self.table.room()
     }
 
     pub fn mode(&self) -> Mode

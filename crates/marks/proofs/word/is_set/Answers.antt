@@ -1,3 +1,4 @@
+-- The lowest digit after the shift.
 use mathlib.Core.Path.{ap}
 use lib.Dec.{eqb}
 use Rattle.marks.proofs.Digits.{low-bit}

@@ -1,3 +1,4 @@
+-- Digit by digit.
 use mathlib.Core.Path.{_∙_, ap}
 use mathlib.Core.Bool.{_&&_}
 use Prim.Native.Nat.{_-_}

@@ -1,3 +1,4 @@
+-- The zeros below the lowest digit.
 use mathlib.Core.Path.{ap}
 use lib.Dec.{eqb}
 use Rattle.marks.proofs.Digits.{lowest-set, lowest-first, lowest-below}

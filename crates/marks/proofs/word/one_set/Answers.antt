@@ -1,3 +1,4 @@
+-- A power of two has one digit.
 use mathlib.Core.Path.{ap, _∙_}
 use Rattle.std.proofs.shelf.Bits.{one-shl}
 use Rattle.marks.specs.Sets.{on}

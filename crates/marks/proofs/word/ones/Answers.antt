@@ -1,3 +1,4 @@
+-- The digits that are set, counted.
 use Rattle.std.proofs.shelf.Bits.{ones-le}
 use Rattle.marks.proofs.Digits.{ones-tally}
 use Rattle.marks.proofs.word.ones.Needs as need

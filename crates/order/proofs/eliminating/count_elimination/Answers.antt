@@ -1,3 +1,4 @@
+-- One event more is eliminated.
 use mathlib.Core.Path.{refl, sym, ap, _∙_}
 use native.Mathlib.Omega.{arith}
 use Rattle.order.proofs.Fills.{Telling, telling-starts, telling-turn, telling-width, telling-within, telling-ends, told-all, told-after, told-bounded}

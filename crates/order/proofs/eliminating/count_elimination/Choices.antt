@@ -1,3 +1,4 @@
+-- The events above the place are eliminated and counted.
 use Rattle.order.proofs.Fills.{Telling}
 use Rattle.order.proofs.eliminating.count_elimination.Given as given
 

@@ -1,3 +1,4 @@
+-- One member more is met.
 use native.Mathlib.Omega.{arith}
 use lib.ListN.{length}
 use Rattle.order.proofs.Visits.{visit-less}
@@ -25,5 +26,6 @@ loop-event-again c = pairing-turn (c .args .near .now) (c .args .members) (c .lo
 
 pub returns : need.returns
 returns c = record {
-    value = pairing-ends (c .args .near .now) (c .args .members) (c .loop-event .rest) (c .loop-event .seen) (c .loop-event .total) (length (c .args .near .now)) (c .in-rest .ensures tt .least) (c .pre) (c .loop-event .inv);
-    bounded = omega (arith, c .loop-event .inv .bounded) }
+  value = pairing-ends (c .args .near .now) (c .args .members) (c .loop-event .rest) (c .loop-event .seen) (c .loop-event .total) (length (c .args .near .now)) (c .in-rest .ensures tt .least) (c .pre) (c .loop-event .inv);
+  bounded = omega (arith, c .loop-event .inv .bounded);
+}

@@ -1,3 +1,4 @@
+-- The pairs among members not in rest are counted; each turn leaves one fewer.
 use Rattle.marks.specs.Sets.{has, how-many}
 use Rattle.order.proofs.Pairings.{Pairing}
 use Rattle.order.proofs.eliminating.pairs_apart.Given as given

@@ -1,3 +1,4 @@
+-- One member more is compared.
 use mathlib.Core.Path.{_≡_, sym, _∙_}
 use mathlib.Core.Bool.{_&&_}
 use Prim.Native.Nat.{_<_}
@@ -6,6 +7,7 @@ use lib.ListN.{length}
 use Rattle.marks.specs.Sets.{has}
 use Rattle.order.specs.Neighbours.{graph-of, free-degree}
 use Rattle.order.proofs.Visits.{search-starts, search-better, search-worse, search-ends, visit-less, counted}
+use Rattle.order.proofs.Computed.{chosen-best}
 use Rattle.order.proofs.neighbours.fewest.Needs as need
 
 pub loop-event-holds : need.loop-event-holds
@@ -35,4 +37,6 @@ loop-event-again c =
     search-worse t free (c .loop-event .rest) (c .without-rest .result) (c .loop-event .best) (c .loop-event .least) (c .in-Some .event) (c .in-Some .ensures tt .least .1) (c .in-Some .ensures tt .least .2) (c .without-rest .ensures) (omega (arith, c .if-degree-least .left)) (omega (arith, c .count-degree .ensures .bounded)) (c .loop-event .inv)
 
 pub returns : need.returns
-returns c = search-ends (c .args .near .now) (c .args .free) (c .loop-event .rest) (c .loop-event .best) (c .loop-event .least) (length (c .args .near .now)) (c .pre) (c .in-rest .ensures tt .least) (c .loop-event .inv)
+returns c =
+    let found = search-ends (c .args .near .now) (c .args .free) (c .loop-event .rest) (c .loop-event .best) (c .loop-event .least) (length (c .args .near .now)) (c .pre) (c .in-rest .ensures tt .least) (c .loop-event .inv) in
+    record { value = chosen-best (c .args .near .now) (c .args .free) (length (c .args .near .now)) (c .loop-event .best) found; chosen = found }

@@ -1,3 +1,4 @@
+-- The best of the members not in rest; each turn leaves one fewer.
 use Rattle.marks.specs.Sets.{has, how-many}
 use Rattle.order.proofs.Visits.{Search}
 use Rattle.order.proofs.neighbours.fewest.Given as given

@@ -1,3 +1,4 @@
+-- One member more is joined.
 use mathlib.Core.Path.{_≡_, sym, ap, _∙_}
 use mathlib.Core.Bool.{_||_}
 use Prim.Native.Nat.{_<_}

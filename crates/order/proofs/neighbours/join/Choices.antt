@@ -1,3 +1,4 @@
+-- Members not in rest are joined; each turn leaves one fewer.
 use Rattle.marks.specs.Sets.{has, how-many}
 use Rattle.order.proofs.Visits.{Visit}
 use Rattle.order.proofs.neighbours.join.Given as given

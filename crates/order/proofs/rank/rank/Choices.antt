@@ -1,3 +1,4 @@
+-- The ranks above the place are given.
 use lib.ListN.{length}
 use Rattle.order.proofs.Ranks.{Ranking}
 use Rattle.order.proofs.rank.rank.Given as given

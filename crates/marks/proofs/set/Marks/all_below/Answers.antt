@@ -1,3 +1,4 @@
+-- One event more.
 use mathlib.Core.Path.{ap, _∙_}
 use mathlib.Core.Bool.{_||_}
 use lib.Dec.{eqb}

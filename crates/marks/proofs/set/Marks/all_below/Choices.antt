@@ -1,3 +1,4 @@
+-- The events so far are marked.
 use Prim.Native.Nat.{ℕ}
 use mathlib.Core.Path.{_≡_}
 use lib.Dec.{ltb}

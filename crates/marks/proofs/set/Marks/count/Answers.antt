@@ -1,3 +1,4 @@
+-- The marks of both words.
 use mathlib.Core.Path.{ap₂, sym, _∙_}
 use Prim.Native.Nat.{_+_}
 use native.Mathlib.Omega.{arith}

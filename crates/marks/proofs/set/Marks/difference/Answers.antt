@@ -1,3 +1,4 @@
+-- Word by word.
 use mathlib.Core.Path.{_∙_}
 use Prim.Native.Nat.{_-_}
 use lib.Dec.{ltb}

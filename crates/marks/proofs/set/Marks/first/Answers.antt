@@ -1,3 +1,4 @@
+-- The lowest digit of the first word that has one.
 use borrow.Author.Needs.{needs}
 use mathlib.Core.Path.{_≡_}
 use mathlib.Core.Bool.{true, false}

@@ -1,3 +1,4 @@
+-- Word by word.
 use mathlib.Core.Path.{_∙_, ap₂}
 use mathlib.Core.Bool.{cond, false}
 use Prim.Native.Nat.{_-_}

@@ -4,14 +4,15 @@ use Prim.Native.Nat.{_*_}
 use lib.ListN.{length}
 use Rattle.table.proofs.Tables.{clear-length}
 use Rattle.net.proofs.Outcomes.{begin-range, begin-cells, begin-done, first-count}
+use Rattle.net.proofs.Closings.{kept-open}
 use Rattle.net.proofs.Soundness.{sound-begun, sound-after}
 use Rattle.net.proofs.net.Net.begin.Needs as need
 
 pub returns-then-n-lt1 : need.returns-then-n-lt1
-returns-then-n-lt1 g c = record { outcome = begin-range _ _ _ (c .then-n-lt1 .either); kept = refl; sound = λ s. s }
+returns-then-n-lt1 g c = record { outcome = begin-range _ _ _ (c .then-n-lt1 .either); untouched = refl; kept = refl; sound = λ s. s; faithful = λ k. k }
 
 pub returns-then-n-room : need.returns-then-n-room
-returns-then-n-room g c = record { outcome = begin-cells _ _ _ (omega arith) (omega arith) (omega arith); kept = refl; sound = λ s. s }
+returns-then-n-room g c = record { outcome = begin-cells _ _ _ (omega arith) (omega arith) (omega arith); untouched = refl; kept = refl; sound = λ s. s; faithful = λ k. k }
 
 pub ghost-self : need.ghost-self
 ghost-self g c =
@@ -23,5 +24,7 @@ returns g c =
     let done = begin-done (g .K·Kind .amount) _ (c .args .n) _ _ _ (c .identity-self .result) (omega arith) (omega arith) (omega arith) (c .clear .ensures) (c .identity-self .ensures) in
     record {
       outcome = done;
+      untouched = tt;
       kept = ap length (c .clear .ensures) ∙ clear-length (c .args .n * c .args .n) _;
-      sound = λ s. sound-after (g .K·Kind .arithmetic) _ _ done (sound-begun (g .K·Kind .arithmetic) _ (c .args .n) _ s) }
+      sound = λ s. sound-after (g .K·Kind .arithmetic) _ _ done (sound-begun (g .K·Kind .arithmetic) _ (c .args .n) _ s);
+      faithful = λ k. kept-open (g .K·Kind .arithmetic) (g .K·Kind .amount) _ (sound-after (g .K·Kind .arithmetic) _ _ done (sound-begun (g .K·Kind .arithmetic) _ (c .args .n) _ (k .sound))) refl }

@@ -3,6 +3,7 @@ use mathlib.Core.Path.{_≡_, refl, sym, ap, subst}
 use lib.ListN.{length}
 use Rattle.net.specs.State.{Sound}
 use Rattle.net.proofs.Outcomes.{make-done, first-count}
+use Rattle.net.proofs.Closings.{kept-open}
 use Rattle.net.proofs.Soundness.{sound-made}
 use Rattle.net.proofs.net.Net.make.Needs as need
 
@@ -15,4 +16,5 @@ returns g c =
     record {
       made = done;
       kept = ap length (c .over-table .ensures);
-      sound = subst (Sound (g .K·Kind .arithmetic)) (sym done) (sound-made (g .K·Kind .arithmetic)) }
+      sound = subst (Sound (g .K·Kind .arithmetic)) (sym done) (sound-made (g .K·Kind .arithmetic));
+      faithful = kept-open (g .K·Kind .arithmetic) (g .K·Kind .amount) _ (subst (Sound (g .K·Kind .arithmetic)) (sym done) (sound-made (g .K·Kind .arithmetic))) refl }

@@ -1,3 +1,4 @@
+-- The list is as long as the ordering counts.
 use mathlib.Core.Path.{sym}
 use Rattle.order.proofs.Stretches.{stretch-length}
 use Rattle.order.proofs.event_order.EventOrder.count.Needs as need

@@ -1,3 +1,4 @@
+-- The event of the list, or none outside it.
 use Rattle.order.proofs.Orders.{event-told, event-none-low, event-none-high}
 use Rattle.order.proofs.event_order.EventOrder.event_at.Needs as need
 use Rattle.order.proofs.event_order.EventOrder.event_at.Needs.{else-rank-ge1·by·then-rank-ge1·else-rank-self, else-rank-ge1·by·else-rank-ge1}

@@ -1,3 +1,4 @@
+-- One event more has its place, or is the first at fault.
 use native.Mathlib.Omega.{arith}
 use mathlib.Core.Path.{_≡_, refl, sym, ap, _∙_}
 use lib.ListN.{getD, length, getD-replicate}

@@ -1,3 +1,4 @@
+-- The events so far have their places.
 use Rattle.order.proofs.Placing.{Placed}
 use Rattle.order.proofs.event_order.EventOrder.from_list.Given as given
 

@@ -1,3 +1,4 @@
+-- One event more at its own place.
 use borrow.Author.Count.{below-more}
 use native.Mathlib.Omega.{arith}
 use mathlib.Core.Logic.{_≢_}

@@ -1,3 +1,4 @@
+-- The events so far stand at their own places.
 use Prim.Native.Nat.{ℕ, _<_}
 use mathlib.Core.Path.{_≡_}
 use lib.ListN.{getD, length}

@@ -1,3 +1,4 @@
+-- The one place of the event, or none.
 use mathlib.Core.Path.{sym}
 use Rattle.order.proofs.Orders.{rank-told, rank-none}
 use Rattle.order.proofs.event_order.EventOrder.rank_of.Needs as need

@@ -2,7 +2,7 @@ use mathlib.Core.Path.{sym, ap, _∙_}
 use Rattle.table.specs.Cells.{amount-of}
 use Rattle.net.specs.State.{lesser}
 use Rattle.net.proofs.Outcomes.{keeps-old}
-use Rattle.net.proofs.net.calls.lesser.Needs as need
+use Rattle.net.proofs.net.laying.lesser.Needs as need
 
 pub returns-in-Greater : need.returns-in-Greater
 returns-in-Greater g c =

@@ -1,0 +1,3 @@
+pub mod Trace
+pub mod Walked
+pub mod Closed

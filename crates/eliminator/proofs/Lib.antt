@@ -1,0 +1,5 @@
+pub mod Viewing
+pub mod Visiting
+pub mod Beginning
+pub mod Stages
+pub mod Relaxing

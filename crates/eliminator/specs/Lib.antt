@@ -1,0 +1,4 @@
+pub mod Views
+pub mod Begun
+pub mod Steps
+pub mod State
