@@ -3,10 +3,10 @@
 pub struct Cell<K> {
     // the bound in force
     pub bound: Option<K>,
-    // the worked bound of the elimination, and the event by which it last became less
+    // the worked bound of the elimination, and the rank, from 0, by which it last became less
     pub worked: Option<K>,
     pub via: Option<u8>,
-    // the least sum of a walk, and the event that the sweep chose for it
+    // the least sum of a walk, and the rank, from 0, that the sweep chose for it
     pub distance: Option<K>,
     pub by: Option<u8>,
 }

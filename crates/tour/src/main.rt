@@ -1,4 +1,7 @@
-// Adds up loops of bounds, bound by bound, and says of each whether any run can keep it.
+// Plans two bus cycles on a net, call by call: prints each call with its answer, and what the net tells then.
+use history::call::Asked;
+use history::call::Call;
+use history::performing::perform;
 use kinds::kind::Kind;
 use kinds::micros::Micros;
 use kinds::micros::MicrosDisplay;
@@ -6,48 +9,128 @@ use kinds::micros::MicrosKind;
 use kinds::strict::StrictMicros;
 use kinds::strict::StrictMicrosDisplay;
 use kinds::strict::StrictMicrosKind;
-use kinds::total::keepable;
-use kinds::total::total;
+use net::refusal::Refusal;
 use std::error::AnyError;
 use std::fmt::Display;
+use table::grid::blank;
 
-// Bound k leads from event k to the next, and the last one back to event 0.
-fn follow<K: Kind + Display>(rt: &impl Print, title: &str, bounds: &[K]) -> Result<(), AnyError> {
-    println!(rt, "{title}")?;
-    let n = bounds.len();
-    for k in 0..n {
-        let bound = bounds[k];
-        let next = if k + 1 < n { k + 1 } else { 0 };
-        match total(&bounds[..k + 1]) {
-            Some(sum) => println!(rt, "  from {k} to {next} at most {bound}: sum {sum}")?,
-            None => println!(
-                rt,
-                "  from {k} to {next} at most {bound}: the sum is too large"
-            )?,
+// Three events: a master's call, a drive's answer, and the end of the cycle.
+const SHEET: [u8; 45] = [
+    1, 0, 3, 1, 3, 1, 0, 11, 2, 0, 1, 0, 0, 0, 0, 0, 0, 0, 100, 0, 11, 2, 1, 0, 255, 255, 255, 255, 255, 255, 255, 216, 0,
+    11, 2, 1, 2, 0, 0, 0, 0, 0, 0, 0, 50,
+];
+
+fn describe<K: Kind + Display>(rt: &impl Print, call: &Call<'_, K>) -> Result<(), AnyError> {
+    match call {
+        Call::Begin(n) => print!(rt, "  begin with {n} events")?,
+        Call::Read(sheet) => {
+            let bytes = sheet.len();
+            print!(rt, "  read a sheet of {bytes} bytes")?
         }
-    }
-    match keepable(bounds) {
-        Some(true) => println!(rt, "  can be kept")?,
-        Some(false) => println!(rt, "  no run can keep it")?,
-        None => println!(rt, "  cannot be told")?,
+        Call::Require(i, j, bound) => print!(rt, "  from {i} to {j} at most {bound}")?,
+        Call::Withdraw(i, j) => print!(rt, "  withdraw the bound from {i} to {j}")?,
+        Call::Arrange(list) => {
+            print!(rt, "  arrange as")?;
+            for event in *list {
+                print!(rt, " {event}")?;
+            }
+        }
+        Call::Rank => print!(rt, "  rank")?,
+        Call::Close(bytes) => print!(rt, "  close with a place of {bytes} bytes")?,
     }
     Ok(())
 }
 
+fn show_answer(rt: &impl Print, answer: Option<u8>) -> Result<(), AnyError> {
+    match answer {
+        None => println!(rt, ": accepted")?,
+        Some(number) => println!(rt, ": refused by {number}")?,
+    }
+    Ok(())
+}
+
+fn show_end<K: Kind + Display>(rt: &impl Print, end: Option<K>) -> Result<(), AnyError> {
+    match end {
+        None => print!(rt, " -")?,
+        Some(bound) => print!(rt, " {bound}")?,
+    }
+    Ok(())
+}
+
+fn show_asked<K: Kind + Display>(rt: &impl Print, from: usize, to: usize, asked: Asked<K>) -> Result<(), AnyError> {
+    print!(rt, "  from {from} to {to}: distance")?;
+    match asked.distance {
+        Ok(distance) => show_end(rt, distance)?,
+        Err(_) => print!(rt, " refused")?,
+    }
+    print!(rt, ", window")?;
+    match asked.window {
+        Ok((low, high)) => {
+            show_end(rt, low)?;
+            show_end(rt, high)?;
+        }
+        Err(_) => print!(rt, " refused")?,
+    }
+    println!(rt, "")?;
+    Ok(())
+}
+
+fn show_closing(rt: &impl Print, closing: Result<(), Refusal>, place: &[u8]) -> Result<(), AnyError> {
+    print!(rt, "  close: ")?;
+    match closing {
+        Ok(()) => println!(rt, "closed")?,
+        Err(Refusal::Contradiction(events)) => {
+            print!(rt, "no run can keep the loop")?;
+            for event in place.iter().take(events) {
+                print!(rt, " {event}")?;
+            }
+            println!(rt, "")?;
+        }
+        Err(_) => println!(rt, "refused")?,
+    }
+    Ok(())
+}
+
+// Performs the calls on one net over a table of 16 cells, and tells all answers.
+fn plan<K: Kind + Display>(rt: &impl Print, title: &str, calls: &[Call<'_, K>], from: usize, to: usize) -> Result<(), AnyError> {
+    println!(rt, "{title}")?;
+    let mut table = [blank(); 16];
+    let mut place = [0u8; 4];
+    let mut answers = [None; 16];
+    let report = perform(&mut table, calls, &mut place, &mut answers, from, to);
+    for (call, answer) in calls.iter().zip(answers.iter()) {
+        describe(rt, call)?;
+        show_answer(rt, *answer)?;
+    }
+    show_asked(rt, from, to, report.before)?;
+    show_closing(rt, report.closing, &place)?;
+    show_asked(rt, from, to, report.after)
+}
+
 fn run(rt: &impl Print) -> Result<(), AnyError> {
-    let whole = [Micros(100), Micros(50), Micros(-40)];
-    follow(rt, "a loop of whole microseconds", &whole)?;
-    let strict = [
-        StrictMicros {
-            number: 5,
-            mark: -1,
-        },
-        StrictMicros {
-            number: -5,
-            mark: 0,
-        },
+    let kept = [
+        Call::Require(0, 1, Micros(5)),
+        Call::Begin(200),
+        Call::Read(&SHEET),
+        Call::Require(2, 1, Micros(-10)),
+        Call::Require(0, 2, Micros(200)),
+        Call::Require(2, 2, Micros(0)),
+        Call::Require(2, 0, Micros(-300)),
+        Call::Withdraw(2, 0),
+        Call::Withdraw(2, 0),
+        Call::Arrange(&[2, 1, 1]),
+        Call::Rank,
+        Call::Close(3),
     ];
-    follow(rt, "a loop with a strict bound", &strict)
+    plan(rt, "a cycle that can be kept", &kept, 0, 2)?;
+    let broken = [
+        Call::Begin(2),
+        Call::Require(0, 1, StrictMicros { number: 5, mark: -1 }),
+        Call::Require(1, 0, StrictMicros { number: -5, mark: 0 }),
+        Call::Close(1),
+        Call::Close(2),
+    ];
+    plan(rt, "a cycle with a strict bound that cannot", &broken, 0, 1)
 }
 
 fn main(rt: LibcRuntime) -> Result<(), AnyError> {
