@@ -52,9 +52,9 @@ pub asked-refused : {T : Type 0} (n : ℕ) (mode : Mode) (i j : ℕ) (x : Reason
 unfolding asked
 asked-refused n mode i j x answer e = ⊎-elim
     (λ t. ⊎-elim
-      (λ u. not-ok x (e ∙ cond-true (ltb i n && ltb j n) _ _ t ∙ cond-true (shut mode) _ _ u))
-      (λ u. turned x (by 6) (e ∙ cond-true (ltb i n && ltb j n) _ _ t ∙ cond-false (shut mode) _ _ u) ∙ sym (cond-true (ltb i n && ltb j n) _ _ t ∙ cond-false (shut mode) _ _ u))
-      (cases-bool (shut mode)))
+    (λ u. not-ok x (e ∙ cond-true (ltb i n && ltb j n) _ _ t ∙ cond-true (shut mode) _ _ u))
+    (λ u. turned x (by 6) (e ∙ cond-true (ltb i n && ltb j n) _ _ t ∙ cond-false (shut mode) _ _ u) ∙ sym (cond-true (ltb i n && ltb j n) _ _ t ∙ cond-false (shut mode) _ _ u))
+    (cases-bool (shut mode)))
     (λ t. turned x (by 3) (e ∙ cond-false (ltb i n && ltb j n) _ _ t) ∙ sym (cond-false (ltb i n && ltb j n) _ _ t))
     (cases-bool (ltb i n && ltb j n))
 
@@ -84,11 +84,6 @@ pub times-placed : (place : ℕ) (s : State) (r : Result (Unit {0}) Reason) → 
 unfolding times-asked
 times-placed place s r e f = f ∙ sym (cond-true (shut (s .mode)) _ _ (ap shut e))
 
--- a mode that is not open is closed
-pub not-open : (mode : Mode) → (mode ≡ Open → ⊥) → mode ≡ Closed
-not-open Open h = absurd (h refl)
-not-open Closed h = refl
-
 -- an option that is some
 pub some-of : {X : Type 0} (o : Option X) → isSome o ≡ true → (x : X) × (o ≡ Some x)
 some-of None e = absurd (false≢true e)
@@ -114,14 +109,14 @@ module _ {K : Type 0} (A : Arithmetic) (L : Lawful A) (amount : K → List ℤ) 
   -- and a distance has an opposite
   pub held-small : (i j : ℕ) (c : Cell K) → Holds A amount order xs → Sound A here → n ≤ 128 → i < n → j < n → c ≡ at-cell n xs i j → (d : K) → c .distance ≡ Some d → A .size (amount d) ≤ 2 ^ 60
   held-small i j c h s few p q at d f =
-    let far = small A L n (bounds amount n xs) (record { below = s .within; amounts = s .amounts }) most-size (s .sized) i j (amount d) (sym (held i j c h p q at) ∙ ap (amount-of amount) f) in
-    omega arith
+      let far = small A L n (bounds amount n xs) (record { below = s .within; amounts = s .amounts }) most-size (s .sized) i j (amount d) (sym (held i j c h p q at) ∙ ap (amount-of amount) f) in
+      omega arith
 
   -- the route told, among the net's own events
   pub routed : (i j : ℕ) (c : Cell K) (d : K) (events : List ℕ) → Holds A amount order xs → i < n → j < n → c ≡ at-cell n xs i j → c .distance ≡ Some d → Walks A amount order xs i j events → (a : List ℤ) × (distance A n (bounds amount n xs) i j ≡ Some a) × Route A (InForce (bounds amount n xs)) i j events a
   routed i j c d events h p q at f walks =
-    let found : at-cell (order .count) xs i j .distance ≡ Some d = ap (λ m. at-cell m xs i j .distance) e ∙ ap (λ (x : Cell K). x .distance) (sym at) ∙ f in
-    (amount d, sym (held i j c h p q at) ∙ ap (amount-of amount) f, subst (λ m. Route A (InForce (bounds amount m xs)) i j events (amount d)) e (walks L h d found))
+      let found : at-cell (order .count) xs i j .distance ≡ Some d = ap (λ m. at-cell m xs i j .distance) e ∙ ap (λ (x : Cell K). x .distance) (sym at) ∙ f in
+      (amount d, sym (held i j c h p q at) ∙ ap (amount-of amount) f, subst (λ m. Route A (InForce (bounds amount m xs)) i j events (amount d)) e (walks L h d found))
 
   calm : Holds A amount order xs → contradictory A n (bounds amount n xs) ≡ false
   calm h = subst (λ m. contradictory A m (bounds amount m xs) ≡ false) e (h .calm)
@@ -144,15 +139,15 @@ module _ {K : Type 0} (A : Arithmetic) (L : Lawful A) (amount : K → List ℤ) 
   -- the least of a column is the time
   pub timed : (place : List K) → Holds A amount order xs → Sound A here → Earliest A amount n xs n place → (j : ℕ) → j < n → amount-of amount (nth place j) ≡ time A n (bounds amount n xs) j
   timed place h s early j l =
-    let plan = times A L n (bounds amount n xs) (sorted s) (calm h) in
-    let same : least A n (column amount n xs j) ≡ time A n (bounds amount n xs) j = least-agree n (column amount n xs j) (λ i. distance A n (bounds amount n xs) i j) (λ i p. held i j (at-cell n xs i j) h p l refl) in
-    early j (plan .schedule .time j) l (same ∙ plan .times j l) ∙ sym (plan .times j l)
+      let plan = times A L n (bounds amount n xs) (sorted s) (calm h) in
+      let same : least A n (column amount n xs j) ≡ time A n (bounds amount n xs) j = least-agree n (column amount n xs j) (λ i. distance A n (bounds amount n xs) i j) (λ i p. held i j (at-cell n xs i j) h p l refl) in
+      early j (plan .schedule .time j) l (same ∙ plan .times j l) ∙ sym (plan .times j l)
 
   -- and the times are a schedule
   pub planned : (place : List K) → Holds A amount order xs → Sound A here → Earliest A amount n xs n place → Schedules A amount here place
   planned place h s early =
-    let plan = times A L n (bounds amount n xs) (sorted s) (calm h) in
-    record { schedule = plan .schedule; times = λ j l. timed place h s early j l ∙ plan .times j l }
+      let plan = times A L n (bounds amount n xs) (sorted s) (calm h) in
+      record { schedule = plan .schedule; times = λ j l. timed place h s early j l ∙ plan .times j l }
 
 -- the lesser of two, by a comparison
 pick-true : {X : Type 0} (b : Bool) (x y : X) → b ≡ true → pick b x y ≡ x

@@ -35,9 +35,9 @@ module _ {K : Type 0} (amount : K → List ℤ) (n : ℕ) where
   -- equal wherever the cells of the n events are
   pub bounds-same : (xs : List (Cell K)) (F : ℕ → ℕ → Option (List ℤ)) (i j : ℕ) → (i < n → j < n → amount-of amount (at-cell n xs i j .bound) ≡ F i j) → ((n ≤ i) ⊎ (n ≤ j) → None ≡ F i j) → bounds amount n xs i j ≡ F i j
   bounds-same xs F i j inside outside = ⊎-elim
-    (λ p. ⊎-elim (λ q. bounds-within xs i j p q ∙ inside p q) (λ q. bounds-outside xs i j (inr q) ∙ outside (inr q)) (cases-lt j n))
-    (λ p. bounds-outside xs i j (inl p) ∙ outside (inl p))
-    (cases-lt i n)
+      (λ p. ⊎-elim (λ q. bounds-within xs i j p q ∙ inside p q) (λ q. bounds-outside xs i j (inr q) ∙ outside (inr q)) (cases-lt j n))
+      (λ p. bounds-outside xs i j (inl p) ∙ outside (inl p))
+      (cases-lt i n)
 
   -- a cleared table holds none
   pub bounds-cleared : (xs : List (Cell K)) → bounds amount n (cleared (n * n) xs) ≡ unbound
@@ -52,16 +52,16 @@ module _ {K : Type 0} (amount : K → List ℤ) (n : ℕ) where
 
       here : (x y : ℕ) → x ≡ i → y ≡ j → bounds amount n (set xs (i * n + j) c) x y ≡ with-bound (bounds amount n xs) i j (amount-of amount (c .bound)) x y
       here x y e f =
-        ap (λ t. bounds amount n (set xs (i * n + j) c) t y) e ∙ ap (λ t. bounds amount n (set xs (i * n + j) c) i t) f
-        ∙ bounds-within (set xs (i * n + j) c) i j p q ∙ ap (λ (d : Cell K). amount-of amount (d .bound)) (put-same n i j xs c p q h)
-        ∙ sym (cond-true (eqb x i && eqb y j) _ _ (and-from (eqb x i) (eqb y j) (eq-eqb x i e) (eq-eqb y j f)))
+          ap (λ t. bounds amount n (set xs (i * n + j) c) t y) e ∙ ap (λ t. bounds amount n (set xs (i * n + j) c) i t) f
+          ∙ bounds-within (set xs (i * n + j) c) i j p q ∙ ap (λ (d : Cell K). amount-of amount (d .bound)) (put-same n i j xs c p q h)
+          ∙ sym (cond-true (eqb x i && eqb y j) _ _ (and-from (eqb x i) (eqb y j) (eq-eqb x i e) (eq-eqb y j f)))
 
       there : (x y : ℕ) → ((x ≡ i) × (y ≡ j) → ⊥) → bounds amount n (set xs (i * n + j) c) x y ≡ with-bound (bounds amount n xs) i j (amount-of amount (c .bound)) x y
       there x y ne =
-        bounds-same (set xs (i * n + j) c) (bounds amount n xs) x y
+          bounds-same (set xs (i * n + j) c) (bounds amount n xs) x y
           (λ a b. ap (λ (d : Cell K). amount-of amount (d .bound)) (put-other n i j x y xs c q b ne) ∙ sym (bounds-within xs x y a b))
           (λ o. sym (bounds-outside xs x y o))
-        ∙ sym (cond-false (eqb x i && eqb y j) _ _ (away x y ne))
+          ∙ sym (cond-false (eqb x i && eqb y j) _ _ (away x y ne))
 
       at : (x y : ℕ) → bounds amount n (set xs (i * n + j) c) x y ≡ with-bound (bounds amount n xs) i j (amount-of amount (c .bound)) x y
       at x y = ⊎-elim (λ e. ⊎-elim (λ f. here x y e f) (λ d. there x y (λ t. d (t .1))) (cases-eq y j)) (λ d. there x y (λ t. d (t .0))) (cases-eq x i)

@@ -59,12 +59,12 @@ unfolding closed
 close-schedules A L minus I place s after r h l e =
     let claim = no-schedule A L minus I (s .events) (s .bounds) (record { below = h .within; amounts = h .amounts }) in
     let told : closing r after ≡ cond (contradictory A (s .events) (s .bounds)) (closing (Err 16) (in-mode Open s)) (closing (Ok (counts-of (s .events) (neighbours (s .bounds)) (s .order))) (in-mode Closed s)) =
-      e ∙ cond-true (leb (s .events) place) _ _ (le-leb (s .events) place l) in
+    e ∙ cond-true (leb (s .events) place) _ _ (le-leb (s .events) place l) in
     ⊎-elim
-      (λ t. let is : r ≡ Err 16 = ap (λ c. c .answer) (told ∙ cond-true (contradictory A (s .events) (s .bounds)) _ _ t) in ((λ _. claim .1 .0 t), (λ _. is)))
-      (λ t. let is : r ≡ Ok (counts-of (s .events) (neighbours (s .bounds)) (s .order)) = ap (λ c. c .answer) (told ∙ cond-false (contradictory A (s .events) (s .bounds)) _ _ t) in
-        ((λ f. not-both _ (sym is ∙ f)), (λ none. absurd (none (claim .0 .0 t)))))
-      (cases-bool (contradictory A (s .events) (s .bounds)))
+    (λ t. let is : r ≡ Err 16 = ap (λ c. c .answer) (told ∙ cond-true (contradictory A (s .events) (s .bounds)) _ _ t) in ((λ _. claim .1 .0 t), (λ _. is)))
+    (λ t. let is : r ≡ Ok (counts-of (s .events) (neighbours (s .bounds)) (s .order)) = ap (λ c. c .answer) (told ∙ cond-false (contradictory A (s .events) (s .bounds)) _ _ t) in
+    ((λ f. not-both _ (sym is ∙ f)), (λ none. absurd (none (claim .0 .0 t)))))
+    (cases-bool (contradictory A (s .events) (s .bounds)))
   where
     not-both : {P : Type 0} (counts : Counts) → _≡_ {A = Result Counts ℕ} (Ok counts) (Err 16) → P
     not-both counts f = let z : _≡_ {A = ℕ} 0 1 = cc in absurd (omega arith)
@@ -89,10 +89,10 @@ module _ {K : Type 0} (A : Arithmetic) (L : Lawful A) (amount : K → List ℤ) 
   unfolding closed
   close-done place counts l same calm told =
       subst (λ m. m ≤ place → closing (Ok counts) (record { events = m; bounds = bounds amount m ys; order = events-of order; mode = Closed }) ≡ closed A place (before m)) e
-        (λ l.
-          ap₂ closing (ap Ok (told ∙ ap (λ F. counts-of (order .count) (neighbours F) (events-of order)) same)) (same-state _ _ _ _ _ _ Closed refl same refl)
-          ∙ sym (cond-true (leb (order .count) place) _ _ (le-leb (order .count) place l) ∙ cond-false (contradictory A (order .count) (bounds amount (order .count) xs)) _ _ calm))
-        l
+      (λ l.
+      ap₂ closing (ap Ok (told ∙ ap (λ F. counts-of (order .count) (neighbours F) (events-of order)) same)) (same-state _ _ _ _ _ _ Closed refl same refl)
+      ∙ sym (cond-true (leb (order .count) place) _ _ (le-leb (order .count) place l) ∙ cond-false (contradictory A (order .count) (bounds amount (order .count) xs)) _ _ calm))
+      l
 
   -- a loop contradicts
   pub close-fails : (place : ℕ) (events : List ℕ) → n ≤ place → Sound A (before n) → bounds amount (order .count) ys ≡ bounds amount (order .count) xs → Loop A (InForce (bounds amount (order .count) xs)) events →
@@ -101,10 +101,10 @@ module _ {K : Type 0} (A : Arithmetic) (L : Lawful A) (amount : K → List ℤ) 
   close-fails place events l h same loop =
       let found : contradictory A (order .count) (bounds amount (order .count) xs) ≡ true = contradiction A L (order .count) (bounds amount (order .count) xs) (within h) .1 .1 (events, loop) in
       subst (λ m. m ≤ place → closing (Err 16) (record { events = m; bounds = bounds amount m ys; order = events-of order; mode = Open }) ≡ closed A place (before m)) e
-        (λ l.
-          ap (closing (Err 16)) (same-state _ _ _ _ _ _ Open refl same refl)
-          ∙ sym (cond-true (leb (order .count) place) _ _ (le-leb (order .count) place l) ∙ cond-true (contradictory A (order .count) (bounds amount (order .count) xs)) _ _ found))
-        l
+      (λ l.
+      ap (closing (Err 16)) (same-state _ _ _ _ _ _ Open refl same refl)
+      ∙ sym (cond-true (leb (order .count) place) _ _ (le-leb (order .count) place l) ∙ cond-true (contradictory A (order .count) (bounds amount (order .count) xs)) _ _ found))
+      l
 
   -- the same loop, among the net's own events
   pub shown : (events : List ℕ) → Loop A (InForce (bounds amount (order .count) xs)) events → Loop A (InForce (bounds amount n xs)) events

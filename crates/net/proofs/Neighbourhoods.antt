@@ -56,13 +56,13 @@ module _ {K : Type 0} (amount : K → List ℤ) (n i j : ℕ) (xs : List (Cell K
 
   pub linked-back : (c d : Cell K) (r : Bool) → i < n → j < n → (i ≡ j → ⊥) → c ≡ at-cell n xs i j → isSome (c .bound) ≡ false → d ≡ at-cell n xs j i → r ≡ isSome (d .bound) → r ≡ neighbours (bounds amount n xs) i j
   linked-back c d r p q ne at e back f =
-    f ∙ ap (λ x. isSome (x .bound)) back ∙ sym (some-bound j i q p)
-    ∙ sym (ap (λ t. t || isSome (bounds amount n xs j i)) (some-bound i j p q ∙ ap (λ x. isSome (x .bound)) (sym at) ∙ e)) ∙ apart ne
+      f ∙ ap (λ x. isSome (x .bound)) back ∙ sym (some-bound j i q p)
+      ∙ sym (ap (λ t. t || isSome (bounds amount n xs j i)) (some-bound i j p q ∙ ap (λ x. isSome (x .bound)) (sym at) ∙ e)) ∙ apart ne
 
   pub linked-outside : (n ≤ i) ⊎ (n ≤ j) → neighbours (bounds amount n xs) i j ≡ false
   linked-outside o =
-    ap₂ (λ s t. not (eqb i j) && (s || t)) (ap isSome (bounds-outside amount n xs i j o)) (ap isSome (bounds-outside amount n xs j i (⊎-elim inr inl o)))
-    ∙ and-off (not (eqb i j))
+      ap₂ (λ s t. not (eqb i j) && (s || t)) (ap isSome (bounds-outside amount n xs i j o)) (ap isSome (bounds-outside amount n xs j i (⊎-elim inr inl o)))
+      ∙ and-off (not (eqb i j))
 
 same-below : (q j : ℕ) → (q ≡ j → ⊥) → ltb q j ≡ ltb q (j + 1)
 same-below q j ne = ⊎-elim (λ l. lt-ltb q j l ∙ sym (lt-ltb q (j + 1) (omega arith))) (λ l. le-ltb q j l ∙ sym (le-ltb q (j + 1) (omega arith))) (cases-lt q j)

@@ -107,9 +107,9 @@ pair-refused : (i j : ℕ) (s : State) (x : Reason) (further : Outcome) → Err 
 unfolding paired
 pair-refused i j s x further e = ⊎-elim
     (λ t. ⊎-elim
-      (λ u. ap (λ r. outcome r s) (e ∙ cond-true (both-events s i j) _ _ t ∙ cond-true (eqb i j) _ _ u) ∙ met _ 3 s _ _ t (unmet _ 4 s further (not-from-true (eqb i j) u)))
-      (λ u. absurd (not-ok x (e ∙ cond-true (both-events s i j) _ _ t ∙ cond-false (eqb i j) _ _ u)))
-      (cases-bool (eqb i j)))
+    (λ u. ap (λ r. outcome r s) (e ∙ cond-true (both-events s i j) _ _ t ∙ cond-true (eqb i j) _ _ u) ∙ met _ 3 s _ _ t (unmet _ 4 s further (not-from-true (eqb i j) u)))
+    (λ u. absurd (not-ok x (e ∙ cond-true (both-events s i j) _ _ t ∙ cond-false (eqb i j) _ _ u)))
+    (cases-bool (eqb i j)))
     (λ t. ap (λ r. outcome r s) (e ∙ cond-false (both-events s i j) _ _ t) ∙ unmet _ 3 s _ t)
     (cases-bool (both-events s i j))
 

@@ -45,26 +45,27 @@ module _ (A : Arithmetic) where
     within = λ x y a e. of-pair (λ t. (t < s .events) × (y < s .events)) x y a e;
     amounts = λ x y a e. either x y a e (λ at f. good a f .0) (λ f. h .amounts x y a f);
     sized = λ x y a e. either x y a e (λ at f. good a f .1) (λ f. h .sized x y a f);
-    apart = λ x. alone x }
+    apart = λ x. alone x;
+  }
     where
       either : {P : Type 0} (x y : ℕ) (a : List ℤ) → with-bound (s .bounds) i j b x y ≡ Some a → ((eqb x i && eqb y j) ≡ true → b ≡ Some a → P) → (s .bounds x y ≡ Some a → P) → P
       either x y a e here there = ⊎-elim (λ t. here t (sym (cond-true (eqb x i && eqb y j) b (s .bounds x y) t) ∙ e)) (λ t. there (sym (cond-false (eqb x i && eqb y j) b (s .bounds x y) t) ∙ e)) (cases-bool (eqb x i && eqb y j))
 
       of-pair : (P : ℕ → Type 0) (x y : ℕ) (a : List ℤ) → with-bound (s .bounds) i j b x y ≡ Some a → (x < s .events) × (y < s .events)
       of-pair P x y a e = either x y a e
-        (λ t f. let c = and-parts (eqb x i) (eqb y j) t in let u = eqb-true x i (c .0) in let v = eqb-true y j (c .1) in (omega arith, omega arith))
-        (λ f. h .within x y a f)
+          (λ t f. let c = and-parts (eqb x i) (eqb y j) t in let u = eqb-true x i (c .0) in let v = eqb-true y j (c .1) in (omega arith, omega arith))
+          (λ f. h .within x y a f)
 
       alone : (x : ℕ) → with-bound (s .bounds) i j b x x ≡ None
       alone x = ⊎-elim
-        (λ t. let c = and-parts (eqb x i) (eqb x j) t in absurd (ne (sym (eqb-true x i (c .0)) ∙ eqb-true x j (c .1))))
-        (λ t. cond-false (eqb x i && eqb x j) b (s .bounds x x) t ∙ h .apart x)
-        (cases-bool (eqb x i && eqb x j))
+          (λ t. let c = and-parts (eqb x i) (eqb x j) t in absurd (ne (sym (eqb-true x i (c .0)) ∙ eqb-true x j (c .1))))
+          (λ t. cond-false (eqb x i && eqb x j) b (s .bounds x x) t ∙ h .apart x)
+          (cases-bool (eqb x i && eqb x j))
 
   pub sound-begun : (cells n : ℕ) (s : State) → Sound A s → Sound A (begun cells n s .after)
   unfolding begun
-  sound-begun cells n s h = 
-    sound-need (ltb 0 n && leb n most-events) 1 s (need (leb (cells-needed n) cells) 2 s (accepted (fresh n))) h
+  sound-begun cells n s h =
+      sound-need (ltb 0 n && leb n most-events) 1 s (need (leb (cells-needed n) cells) 2 s (accepted (fresh n))) h
       (λ t. sound-need (leb (cells-needed n) cells) 2 s (accepted (fresh n)) h (λ u. sound-unbound n _ _))
 
   least-good : (o : Option (List ℤ)) (w : List ℤ) → ((a : List ℤ) → o ≡ Some a → Amount A a × (A .size a ≤ most-size)) → Amount A w × (A .size w ≤ most-size) → Amount A (lesser A o w) × (A .size (lesser A o w) ≤ most-size)
@@ -74,15 +75,15 @@ module _ (A : Arithmetic) where
   pub sound-required : (i j : ℕ) (w : List ℤ) (s : State) → Amount A w → Sound A s → Sound A (required A i j w s .after)
   unfolding required
   sound-required i j w s amount h =
-    let after = accepted (rebound s i j (Some (lesser A (s .bounds i j) w))) in
-    let small = leb (A .size w) most-size in
-    sound-need (both-events s i j) 3 s (need (not (eqb i j)) 4 s (need small 11 s after)) h
+      let after = accepted (rebound s i j (Some (lesser A (s .bounds i j) w))) in
+      let small = leb (A .size w) most-size in
+      sound-need (both-events s i j) 3 s (need (not (eqb i j)) 4 s (need small 11 s after)) h
       (λ t. sound-need (not (eqb i j)) 4 s (need small 11 s after) h
       (λ d. sound-need small 11 s after h
       (λ l. let c = and-parts (ltb i (s .events)) (ltb j (s .events)) t in
-        sound-with s i j _ _ _ h (ltb-true i (s .events) (c .0)) (ltb-true j (s .events) (c .1)) (eqb-false i j (not-true (eqb i j) d))
-          (λ a e. let g = least-good (s .bounds i j) w (λ v f. (h .amounts i j v f, h .sized i j v f)) (amount, leb-true (A .size w) most-size l) in
-            subst (λ x. Amount A x × (A .size x ≤ most-size)) (inside (lesser A (s .bounds i j) w) a e) g))))
+      sound-with s i j _ _ _ h (ltb-true i (s .events) (c .0)) (ltb-true j (s .events) (c .1)) (eqb-false i j (not-true (eqb i j) d))
+      (λ a e. let g = least-good (s .bounds i j) w (λ v f. (h .amounts i j v f, h .sized i j v f)) (amount, leb-true (A .size w) most-size l) in
+      subst (λ x. Amount A x × (A .size x ≤ most-size)) (inside (lesser A (s .bounds i j) w) a e) g))))
     where
       inside : (x y : List ℤ) → _≡_ {A = Option (List ℤ)} (Some x) (Some y) → x ≡ y
       inside x y e = cc
@@ -90,13 +91,13 @@ module _ (A : Arithmetic) where
   pub sound-withdrawn : (i j : ℕ) (s : State) → Sound A s → Sound A (withdrawn i j s .after)
   unfolding withdrawn
   sound-withdrawn i j s h =
-    let after = accepted (rebound s i j None) in
-    let some = isSome (s .bounds i j) in
-    sound-need (both-events s i j) 3 s (need (not (eqb i j)) 4 s (need some 12 s after)) h
+      let after = accepted (rebound s i j None) in
+      let some = isSome (s .bounds i j) in
+      sound-need (both-events s i j) 3 s (need (not (eqb i j)) 4 s (need some 12 s after)) h
       (λ t. sound-need (not (eqb i j)) 4 s (need some 12 s after) h
       (λ d. sound-need some 12 s after h
       (λ l. let c = and-parts (ltb i (s .events)) (ltb j (s .events)) t in
-        sound-with s i j _ _ _ h (ltb-true i (s .events) (c .0)) (ltb-true j (s .events) (c .1)) (eqb-false i j (not-true (eqb i j) d)) (λ a e. absurd (none-some a e)))))
+      sound-with s i j _ _ _ h (ltb-true i (s .events) (c .0)) (ltb-true j (s .events) (c .1)) (eqb-false i j (not-true (eqb i j) d)) (λ a e. absurd (none-some a e)))))
 
   pub sound-arranged : (list : List ℕ) (s : State) → Sound A s → Sound A (arranged list s .after)
   unfolding arranged

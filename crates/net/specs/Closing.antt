@@ -38,8 +38,8 @@ unfoldable pub closed : Arithmetic → (place : ℕ) → State → Closing
 closed A place s =
     cond (leb (s .events) place)
     (cond (contradictory A (s .events) (s .bounds))
-      (closing (Err 16) (in-mode Open s))
-      (closing (Ok (counts-of (s .events) (neighbours (s .bounds)) (s .order))) (in-mode Closed s)))
+    (closing (Err 16) (in-mode Open s))
+    (closing (Ok (counts-of (s .events) (neighbours (s .bounds)) (s .order))) (in-mode Closed s)))
     (closing (Err 5) s)
 
 -- an answer, with the number of a refusal

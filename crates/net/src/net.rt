@@ -8,12 +8,12 @@ use super::lent::Table;
 use super::mode::Mode;
 use order::event_order::EventOrder;
 
-pub mod making;
-pub mod laying;
-pub mod ordering;
-pub mod questions;
 pub mod close;
 pub mod distances;
+pub mod laying;
+pub mod making;
+pub mod ordering;
+pub mod questions;
 pub mod times;
 
 #[derive(Drop)]

@@ -64,10 +64,19 @@ mod tests {
         let mut net = Net::make(&mut table);
         net.begin(3)?;
         net.require(0, 1, Micros(LARGEST))?;
-        check_eq(net.require(0, 1, Micros(LARGEST + 1)), Err(Refusal::TooLarge))?;
-        check_eq(net.require(0, 1, Micros(-LARGEST - 1)), Err(Refusal::TooLarge))?;
+        check_eq(
+            net.require(0, 1, Micros(LARGEST + 1)),
+            Err(Refusal::TooLarge),
+        )?;
+        check_eq(
+            net.require(0, 1, Micros(-LARGEST - 1)),
+            Err(Refusal::TooLarge),
+        )?;
         check_eq(net.require(0, 3, Micros(0)), Err(Refusal::NoSuchEvent))?;
-        check_eq(net.require(1, 1, Micros(LARGEST + 1)), Err(Refusal::SameEvent))?;
+        check_eq(
+            net.require(1, 1, Micros(LARGEST + 1)),
+            Err(Refusal::SameEvent),
+        )?;
         check_eq(net.bound(0, 1)?.ok_or("in force")?.0, LARGEST)
     }
 
@@ -179,8 +188,22 @@ mod tests {
         let mut table = [EMPTY_STRICT; 4];
         let mut net = Net::make(&mut table);
         net.begin(2)?;
-        net.require(0, 1, StrictMicros { number: 5, mark: -1 })?;
-        net.require(1, 0, StrictMicros { number: -5, mark: 0 })?;
+        net.require(
+            0,
+            1,
+            StrictMicros {
+                number: 5,
+                mark: -1,
+            },
+        )?;
+        net.require(
+            1,
+            0,
+            StrictMicros {
+                number: -5,
+                mark: 0,
+            },
+        )?;
         let mut place = [0u8; 2];
         check(matches!(net.close(&mut place), Err(Refusal::Contradiction(2))))
     }

@@ -10,9 +10,9 @@ ghost use Rattle.walks.specs.Walks.{Schedule};
 ghost use Rattle.net.specs.State.{state, room, Sound};
 ghost use Rattle.net.specs.Kept.{Kept};
 ghost use Rattle.net.specs.Closing.{closing, closed, numbered, carried, Shown, Rest};
-use super::Net;
 use super::super::mode::Mode;
 use super::super::refusal::Refusal;
+use super::Net;
 use kinds::kind::Kind;
 use order::counts::Counts;
 

@@ -15,9 +15,9 @@ ghost use Rattle.net.specs.State.{state};
 ghost use Rattle.net.specs.Told.{amounts-told};
 ghost use Rattle.net.specs.Kept.{Kept};
 ghost use Rattle.net.specs.Asking.{asked, done, pair-asked, distance-told, window-told, ends-told, walk-asked, WalkTold};
-use super::Net;
 use super::super::mode::Mode;
 use super::super::refusal::Refusal;
+use super::Net;
 use kinds::kind::Kind;
 
 impl<'t, K: Kind> Net<'t, K> {

@@ -7,10 +7,10 @@ ghost use Rattle.net.specs.Kept.{Kept};
 ghost use Rattle.net.specs.Refusals.{answered};
 ghost use Rattle.net.specs.State.{state, room, outcome, Untouched, Sound};
 ghost use Rattle.net.specs.State as call;
-use super::Net;
 use super::super::mode::Mode;
 use super::super::refusal::Refusal;
 use super::super::refusal::RefusalFromMisordered;
+use super::Net;
 use kinds::kind::Kind;
 use order::event_order::EventOrder;
 

@@ -5,9 +5,9 @@ ghost use Rattle.net.specs.Refusals.{answered};
 ghost use Rattle.net.specs.State.{state, bound-told};
 ghost use Rattle.net.specs.State as spec;
 ghost use Rattle.net.specs.Told.{amounts-told, shut};
-use super::Net;
 use super::super::mode::Mode;
 use super::super::refusal::Refusal;
+use super::Net;
 use kinds::kind::Kind;
 
 impl<'t, K: Kind> Net<'t, K> {

@@ -6,9 +6,9 @@ ghost use Rattle.net.specs.Refusals.{answered};
 ghost use Rattle.net.specs.State.{state};
 ghost use Rattle.net.specs.Kept.{Kept};
 ghost use Rattle.net.specs.Asking.{times-asked, Timed, Schedules};
-use super::Net;
 use super::super::mode::Mode;
 use super::super::refusal::Refusal;
+use super::Net;
 use kinds::kind::Kind;
 
 impl<'t, K: Kind> Net<'t, K> {

@@ -15,4 +15,5 @@ returns g c =
     record {
       sized = ranking-count (c .args .n) _ (c .rank .result) value;
       value = value;
-      ruled = ranked-moved (c .gather .last .near) _ _ _ (c .args .n) _ a (c .gather .ensures) same (c .rank .ensures .ruled) }
+      ruled = ranked-moved (c .gather .last .near) _ _ _ (c .args .n) _ a (c .gather .ensures) same (c .rank .ensures .ruled);
+    }

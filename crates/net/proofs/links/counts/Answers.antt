@@ -12,4 +12,5 @@ returns g c =
     let b = sym (c .gather .kept .near) ∙ a in
     record {
       value = counts-moved (c .gather .last .near) _ _ _ _ _ (c .gather .ensures) (ap (λ m. neighbours (bounds (g .K·Kind .amount) m (c .args .cells .now))) b) (c .count-elimination .ensures .value);
-      bounded = c .count-elimination .ensures .bounded }
+      bounded = c .count-elimination .ensures .bounded;
+    }

@@ -12,8 +12,9 @@ pub loop-j-again : need.loop-j-again
 loop-j-again g c =
     let f = neighbours (bounds (g .K·Kind .amount) (c .args .n) (c .args .cells .now)) (c .args .i) in
     elim (c .if-linked .came) [
-    then-linked w ↦ marks-more (c .loop-j .marks) (w .with-marks .result) _ f (c .loop-j .j) (w .marks-is) (w .if-linked .ensures tt) (w .with-marks .ensures) (c .loop-j .inv)
-  | else-linked w ↦ marks-skip (c .loop-j .marks) _ f (c .loop-j .j) (w .marks-is) (w .if-linked .ensures tt) (c .loop-j .inv) ]
+      | then-linked w ↦ marks-more (c .loop-j .marks) (w .with-marks .result) _ f (c .loop-j .j) (w .marks-is) (w .if-linked .ensures tt) (w .with-marks .ensures) (c .loop-j .inv)
+      | else-linked w ↦ marks-skip (c .loop-j .marks) _ f (c .loop-j .j) (w .marks-is) (w .if-linked .ensures tt) (c .loop-j .inv)
+    ]
 
 pub returns : need.returns
 returns g c =

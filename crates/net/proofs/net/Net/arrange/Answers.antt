@@ -22,4 +22,5 @@ returns g c =
       untouched = tt;
       kept = refl;
       sound = λ s. sound-after (g .K·Kind .arithmetic) _ _ done (sound-arranged (g .K·Kind .arithmetic) _ _ s);
-      faithful = λ k. kept-open (g .K·Kind .arithmetic) (g .K·Kind .amount) _ (sound-after (g .K·Kind .arithmetic) _ _ done (sound-arranged (g .K·Kind .arithmetic) _ _ (k .sound))) refl }
+      faithful = λ k. kept-open (g .K·Kind .arithmetic) (g .K·Kind .amount) _ (sound-after (g .K·Kind .arithmetic) _ _ done (sound-arranged (g .K·Kind .arithmetic) _ _ (k .sound))) refl;
+    }

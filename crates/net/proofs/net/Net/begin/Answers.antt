@@ -27,4 +27,5 @@ returns g c =
       untouched = tt;
       kept = ap length (c .clear .ensures) ∙ clear-length (c .args .n * c .args .n) _;
       sound = λ s. sound-after (g .K·Kind .arithmetic) _ _ done (sound-begun (g .K·Kind .arithmetic) _ (c .args .n) _ s);
-      faithful = λ k. kept-open (g .K·Kind .arithmetic) (g .K·Kind .amount) _ (sound-after (g .K·Kind .arithmetic) _ _ done (sound-begun (g .K·Kind .arithmetic) _ (c .args .n) _ (k .sound))) refl }
+      faithful = λ k. kept-open (g .K·Kind .arithmetic) (g .K·Kind .amount) _ (sound-after (g .K·Kind .arithmetic) _ _ done (sound-begun (g .K·Kind .arithmetic) _ (c .args .n) _ (k .sound))) refl;
+    }

@@ -18,7 +18,8 @@ returns-then-place-self g c = record {
   untouched = λ e. refl;
   kept = refl;
   sound = λ s. s;
-  faithful = λ k. k }
+  faithful = λ k. k;
+}
 
 pub returns-in-Ok : need.returns-in-Ok
 returns-in-Ok g c =
@@ -33,7 +34,8 @@ returns-in-Ok g c =
       untouched = counts-not-short (c .counts .result);
       kept = e .long;
       sound = sound-closed (g .K·Kind .arithmetic) (g .K·Kind·met .lawful) (g .K·Kind .amount) (c .args .self .now .events) (c .args .self .now .order) (c .args .self .now .mode) (cells-of (c .args .self .now)) (now (c .close .last .self .cells)) (c .args .self .now .ordered) Closed (e .same);
-      faithful = λ k. record { sound = sound-closed (g .K·Kind .arithmetic) (g .K·Kind·met .lawful) (g .K·Kind .amount) (c .args .self .now .events) (c .args .self .now .order) (c .args .self .now .mode) (cells-of (c .args .self .now)) (now (c .close .last .self .cells)) (c .args .self .now .ordered) Closed (e .same) (k .sound); holds = λ _. ends (k .sound) .1 } }
+      faithful = λ k. record { sound = sound-closed (g .K·Kind .arithmetic) (g .K·Kind·met .lawful) (g .K·Kind .amount) (c .args .self .now .events) (c .args .self .now .order) (c .args .self .now .mode) (cells-of (c .args .self .now)) (now (c .close .last .self .cells)) (c .args .self .now .ordered) Closed (e .same) (k .sound); holds = λ _. ends (k .sound) .1 };
+    }
 
 pub returns-in-Err : need.returns-in-Err
 returns-in-Err g c =
@@ -48,4 +50,5 @@ returns-in-Err g c =
       untouched = loop-not-short;
       kept = e .long;
       sound = sound-closed (g .K·Kind .arithmetic) (g .K·Kind·met .lawful) (g .K·Kind .amount) (c .args .self .now .events) (c .args .self .now .order) (c .args .self .now .mode) (cells-of (c .args .self .now)) (now (c .close .last .self .cells)) (c .args .self .now .ordered) Open (e .same);
-      faithful = λ k. kept-open (g .K·Kind .arithmetic) (g .K·Kind .amount) _ (sound-closed (g .K·Kind .arithmetic) (g .K·Kind·met .lawful) (g .K·Kind .amount) (c .args .self .now .events) (c .args .self .now .order) (c .args .self .now .mode) (cells-of (c .args .self .now)) (now (c .close .last .self .cells)) (c .args .self .now .ordered) Open (e .same) (k .sound)) refl }
+      faithful = λ k. kept-open (g .K·Kind .arithmetic) (g .K·Kind .amount) _ (sound-closed (g .K·Kind .arithmetic) (g .K·Kind·met .lawful) (g .K·Kind .amount) (c .args .self .now .events) (c .args .self .now .order) (c .args .self .now .mode) (cells-of (c .args .self .now)) (now (c .close .last .self .cells)) (c .args .self .now .ordered) Open (e .same) (k .sound)) refl;
+    }

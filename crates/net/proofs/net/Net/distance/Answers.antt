@@ -17,4 +17,5 @@ returns g c =
     record {
       refused = asked-good _ _ _ _ _ (pair .0) (pair .1) (pair .2);
       told = λ k. ap Ok (held (g .K·Kind .arithmetic) (g .K·Kind·met .lawful) (g .K·Kind .amount) (c .args .self .now .events) (c .args .self .now .order) (c .args .self .now .mode) (cells-of (c .args .self .now)) (c .args .self .now .ordered) (c .args .i) (c .args .j) (c .at-there .result) (k .holds (pair .2)) (pair .0) (pair .1) (c .at-there .ensures)) ∙ asked-good _ _ _ _ _ (pair .0) (pair .1) (pair .2);
-      least = λ k. held-least (g .K·Kind .arithmetic) (g .K·Kind·met .lawful) (g .K·Kind .amount) (c .args .self .now .events) (c .args .self .now .order) (c .args .self .now .mode) (cells-of (c .args .self .now)) (c .args .self .now .ordered) (c .args .i) (c .args .j) _ (k .holds (pair .2)) (k .sound) (held (g .K·Kind .arithmetic) (g .K·Kind·met .lawful) (g .K·Kind .amount) (c .args .self .now .events) (c .args .self .now .order) (c .args .self .now .mode) (cells-of (c .args .self .now)) (c .args .self .now .ordered) (c .args .i) (c .args .j) (c .at-there .result) (k .holds (pair .2)) (pair .0) (pair .1) (c .at-there .ensures)) }
+      least = λ k. held-least (g .K·Kind .arithmetic) (g .K·Kind·met .lawful) (g .K·Kind .amount) (c .args .self .now .events) (c .args .self .now .order) (c .args .self .now .mode) (cells-of (c .args .self .now)) (c .args .self .now .ordered) (c .args .i) (c .args .j) _ (k .holds (pair .2)) (k .sound) (held (g .K·Kind .arithmetic) (g .K·Kind·met .lawful) (g .K·Kind .amount) (c .args .self .now .events) (c .args .self .now .order) (c .args .self .now .mode) (cells-of (c .args .self .now)) (c .args .self .now .ordered) (c .args .i) (c .args .j) (c .at-there .result) (k .holds (pair .2)) (pair .0) (pair .1) (c .at-there .ensures));
+    }

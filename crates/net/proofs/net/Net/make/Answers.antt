@@ -17,4 +17,5 @@ returns g c =
       made = done;
       kept = ap length (c .over-table .ensures);
       sound = subst (Sound (g .K·Kind .arithmetic)) (sym done) (sound-made (g .K·Kind .arithmetic));
-      faithful = kept-open (g .K·Kind .arithmetic) (g .K·Kind .amount) _ (subst (Sound (g .K·Kind .arithmetic)) (sym done) (sound-made (g .K·Kind .arithmetic))) refl }
+      faithful = kept-open (g .K·Kind .arithmetic) (g .K·Kind .amount) _ (subst (Sound (g .K·Kind .arithmetic)) (sym done) (sound-made (g .K·Kind .arithmetic))) refl;
+    }

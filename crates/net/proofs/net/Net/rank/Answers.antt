@@ -13,4 +13,5 @@ returns g c =
       ruled = c .by-fewest-self .ensures .ruled;
       kept = refl;
       sound = λ s. sound-after (g .K·Kind .arithmetic) _ _ done (sound-ranked (g .K·Kind .arithmetic) _ s);
-      faithful = λ k. kept-open (g .K·Kind .arithmetic) (g .K·Kind .amount) _ (sound-after (g .K·Kind .arithmetic) _ _ done (sound-ranked (g .K·Kind .arithmetic) _ (k .sound))) refl }
+      faithful = λ k. kept-open (g .K·Kind .arithmetic) (g .K·Kind .amount) _ (sound-after (g .K·Kind .arithmetic) _ _ done (sound-ranked (g .K·Kind .arithmetic) _ (k .sound))) refl;
+    }

@@ -24,4 +24,5 @@ returns g c =
       untouched = tt;
       kept = ap length (c .put .ensures) ∙ length-set _ _ _;
       sound = λ s. sound-after (g .K·Kind .arithmetic) _ _ done (sound-required (g .K·Kind .arithmetic) (c .args .i) (c .args .j) _ _ (g .K·Kind·met .amounts (c .args .bound)) s);
-      faithful = λ k. kept-open (g .K·Kind .arithmetic) (g .K·Kind .amount) _ (sound-after (g .K·Kind .arithmetic) _ _ done (sound-required (g .K·Kind .arithmetic) (c .args .i) (c .args .j) _ _ (g .K·Kind·met .amounts (c .args .bound)) (k .sound))) refl }
+      faithful = λ k. kept-open (g .K·Kind .arithmetic) (g .K·Kind .amount) _ (sound-after (g .K·Kind .arithmetic) _ _ done (sound-required (g .K·Kind .arithmetic) (c .args .i) (c .args .j) _ _ (g .K·Kind·met .amounts (c .args .bound)) (k .sound))) refl;
+    }

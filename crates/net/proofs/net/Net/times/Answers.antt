@@ -14,4 +14,5 @@ pub returns : need.returns
 returns g c = record {
   refused = times-placed _ _ _ (c .in-rest .is) (placed-long _ _ (omega arith));
   told = λ k. (timed (g .K·Kind .arithmetic) (g .K·Kind·met .lawful) (g .K·Kind .amount) (c .args .self .now .events) (c .args .self .now .order) (c .args .self .now .mode) (cells-of (c .args .self .now)) (c .args .self .now .ordered) (c .write-times .last .place) (k .holds (c .in-rest .is)) (k .sound) (c .write-times .ensures .times), c .write-times .ensures .rest);
-  schedule = λ k. planned (g .K·Kind .arithmetic) (g .K·Kind·met .lawful) (g .K·Kind .amount) (c .args .self .now .events) (c .args .self .now .order) (c .args .self .now .mode) (cells-of (c .args .self .now)) (c .args .self .now .ordered) (c .write-times .last .place) (k .holds (c .in-rest .is)) (k .sound) (c .write-times .ensures .times) }
+  schedule = λ k. planned (g .K·Kind .arithmetic) (g .K·Kind·met .lawful) (g .K·Kind .amount) (c .args .self .now .events) (c .args .self .now .order) (c .args .self .now .mode) (cells-of (c .args .self .now)) (c .args .self .now .ordered) (c .write-times .last .place) (k .holds (c .in-rest .is)) (k .sound) (c .write-times .ensures .times);
+}

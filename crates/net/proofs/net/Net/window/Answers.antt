@@ -18,12 +18,13 @@ returns g c =
     record {
       refused = asked-good _ _ _ _ _ (pair .0) (pair .1) (pair .2);
       told = λ k.
-        let there = held (g .K·Kind .arithmetic) (g .K·Kind·met .lawful) (g .K·Kind .amount) (c .args .self .now .events) (c .args .self .now .order) (c .args .self .now .mode) (cells-of (c .args .self .now)) (c .args .self .now .ordered) (c .args .i) (c .args .j) (c .at-there .result) (k .holds (pair .2)) (pair .0) (pair .1) (c .at-there .ensures) in
-        let back = held (g .K·Kind .arithmetic) (g .K·Kind·met .lawful) (g .K·Kind .amount) (c .args .self .now .events) (c .args .self .now .order) (c .args .self .now .mode) (cells-of (c .args .self .now)) (c .args .self .now .ordered) (c .args .j) (c .args .i) (c .at-back .result) (k .holds (pair .2)) (pair .1) (pair .0) (c .at-back .ensures) in
-        let small = held-small (g .K·Kind .arithmetic) (g .K·Kind·met .lawful) (g .K·Kind .amount) (c .args .self .now .events) (c .args .self .now .order) (c .args .self .now .mode) (cells-of (c .args .self .now)) (c .args .self .now .ordered) (c .args .j) (c .args .i) (c .at-back .result) (k .holds (pair .2)) (k .sound) (omega arith) (pair .1) (pair .0) (c .at-back .ensures) in
-        ap₂ (λ x y. Ok (x, y)) (c .opposed .ensures small ∙ ap (opposite (g .K·Kind .minus)) back) there ∙ asked-good _ _ _ _ _ (pair .0) (pair .1) (pair .2);
+          let there = held (g .K·Kind .arithmetic) (g .K·Kind·met .lawful) (g .K·Kind .amount) (c .args .self .now .events) (c .args .self .now .order) (c .args .self .now .mode) (cells-of (c .args .self .now)) (c .args .self .now .ordered) (c .args .i) (c .args .j) (c .at-there .result) (k .holds (pair .2)) (pair .0) (pair .1) (c .at-there .ensures) in
+          let back = held (g .K·Kind .arithmetic) (g .K·Kind·met .lawful) (g .K·Kind .amount) (c .args .self .now .events) (c .args .self .now .order) (c .args .self .now .mode) (cells-of (c .args .self .now)) (c .args .self .now .ordered) (c .args .j) (c .args .i) (c .at-back .result) (k .holds (pair .2)) (pair .1) (pair .0) (c .at-back .ensures) in
+          let small = held-small (g .K·Kind .arithmetic) (g .K·Kind·met .lawful) (g .K·Kind .amount) (c .args .self .now .events) (c .args .self .now .order) (c .args .self .now .mode) (cells-of (c .args .self .now)) (c .args .self .now .ordered) (c .args .j) (c .args .i) (c .at-back .result) (k .holds (pair .2)) (k .sound) (omega arith) (pair .1) (pair .0) (c .at-back .ensures) in
+          ap₂ (λ x y. Ok (x, y)) (c .opposed .ensures small ∙ ap (opposite (g .K·Kind .minus)) back) there ∙ asked-good _ _ _ _ _ (pair .0) (pair .1) (pair .2);
       exact = λ k.
-        let there = held (g .K·Kind .arithmetic) (g .K·Kind·met .lawful) (g .K·Kind .amount) (c .args .self .now .events) (c .args .self .now .order) (c .args .self .now .mode) (cells-of (c .args .self .now)) (c .args .self .now .ordered) (c .args .i) (c .args .j) (c .at-there .result) (k .holds (pair .2)) (pair .0) (pair .1) (c .at-there .ensures) in
-        let back = held (g .K·Kind .arithmetic) (g .K·Kind·met .lawful) (g .K·Kind .amount) (c .args .self .now .events) (c .args .self .now .order) (c .args .self .now .mode) (cells-of (c .args .self .now)) (c .args .self .now .ordered) (c .args .j) (c .args .i) (c .at-back .result) (k .holds (pair .2)) (pair .1) (pair .0) (c .at-back .ensures) in
-        let small = held-small (g .K·Kind .arithmetic) (g .K·Kind·met .lawful) (g .K·Kind .amount) (c .args .self .now .events) (c .args .self .now .order) (c .args .self .now .mode) (cells-of (c .args .self .now)) (c .args .self .now .ordered) (c .args .j) (c .args .i) (c .at-back .result) (k .holds (pair .2)) (k .sound) (omega arith) (pair .1) (pair .0) (c .at-back .ensures) in
-        held-exact (g .K·Kind .arithmetic) (g .K·Kind·met .lawful) (g .K·Kind .amount) (c .args .self .now .events) (c .args .self .now .order) (c .args .self .now .mode) (cells-of (c .args .self .now)) (c .args .self .now .ordered) (g .K·Kind .minus) (g .K·Kind·met .inverse) (c .args .i) (c .args .j) _ _ (k .holds (pair .2)) (k .sound) (c .opposed .ensures small ∙ ap (opposite (g .K·Kind .minus)) back) there }
+          let there = held (g .K·Kind .arithmetic) (g .K·Kind·met .lawful) (g .K·Kind .amount) (c .args .self .now .events) (c .args .self .now .order) (c .args .self .now .mode) (cells-of (c .args .self .now)) (c .args .self .now .ordered) (c .args .i) (c .args .j) (c .at-there .result) (k .holds (pair .2)) (pair .0) (pair .1) (c .at-there .ensures) in
+          let back = held (g .K·Kind .arithmetic) (g .K·Kind·met .lawful) (g .K·Kind .amount) (c .args .self .now .events) (c .args .self .now .order) (c .args .self .now .mode) (cells-of (c .args .self .now)) (c .args .self .now .ordered) (c .args .j) (c .args .i) (c .at-back .result) (k .holds (pair .2)) (pair .1) (pair .0) (c .at-back .ensures) in
+          let small = held-small (g .K·Kind .arithmetic) (g .K·Kind·met .lawful) (g .K·Kind .amount) (c .args .self .now .events) (c .args .self .now .order) (c .args .self .now .mode) (cells-of (c .args .self .now)) (c .args .self .now .ordered) (c .args .j) (c .args .i) (c .at-back .result) (k .holds (pair .2)) (k .sound) (omega arith) (pair .1) (pair .0) (c .at-back .ensures) in
+          held-exact (g .K·Kind .arithmetic) (g .K·Kind·met .lawful) (g .K·Kind .amount) (c .args .self .now .events) (c .args .self .now .order) (c .args .self .now .mode) (cells-of (c .args .self .now)) (c .args .self .now .ordered) (g .K·Kind .minus) (g .K·Kind·met .inverse) (c .args .i) (c .args .j) _ _ (k .holds (pair .2)) (k .sound) (c .opposed .ensures small ∙ ap (opposite (g .K·Kind .minus)) back) there;
+    }

@@ -17,7 +17,9 @@ returns-then-is-none g c = let pair = c .in-Continue-check-pair .ensures tt .goo
   outcome = withdraw-none (g .K·Kind .amount) (c .args .i) (c .args .j) (c .args .self .now .events) _ _ _ (c .at-held .result) (pair .0) (pair .1) (pair .2) (c .at-held .ensures) (c .if-is-none .ensures tt);
   untouched = refl;
   kept = refl;
-  sound = λ s. s; faithful = λ k. k }
+  sound = λ s. s;
+  faithful = λ k. k;
+}
 
 pub returns : need.returns
 returns g c =
@@ -28,4 +30,5 @@ returns g c =
       untouched = tt;
       kept = ap length (c .put .ensures) ∙ length-set _ _ _;
       sound = λ s. sound-after (g .K·Kind .arithmetic) _ _ done (sound-withdrawn (g .K·Kind .arithmetic) (c .args .i) (c .args .j) _ s);
-      faithful = λ k. kept-open (g .K·Kind .arithmetic) (g .K·Kind .amount) _ (sound-after (g .K·Kind .arithmetic) _ _ done (sound-withdrawn (g .K·Kind .arithmetic) (c .args .i) (c .args .j) _ (k .sound))) refl }
+      faithful = λ k. kept-open (g .K·Kind .arithmetic) (g .K·Kind .amount) _ (sound-after (g .K·Kind .arithmetic) _ _ done (sound-withdrawn (g .K·Kind .arithmetic) (c .args .i) (c .args .j) _ (k .sound))) refl;
+    }
