@@ -12,24 +12,46 @@ use lib.Seq.{getD-set-same, getD-set-other}
 use Rattle.std.proofs.shelf.Tests.{cases-eq, cases-bool, ltb-true, lt-ltb}
 use Rattle.std.specs.declared.option.Option.{Option}
 use Rattle.std.specs.declared.option.Option.the-variants.{Some, None}
-use Rattle.kinds.specs.Arithmetic.{Arithmetic, Amount, AtMost}
+use Rattle.kinds.specs.Arithmetic.{Arithmetic, Amount, AtMost, Lawful}
 use Rattle.marks.specs.declared.set.Marks.{Marks}
 use Rattle.marks.specs.Sets.{has}
 use Rattle.table.specs.declared.cell.Cell.{Cell}
 use Rattle.eliminator.specs.Views.{Grid, Written}
-use Rattle.eliminator.specs.Steps.{Lowered, Relaxed, marked, OneCell, RowPart, Part, Whole, Lower, Near, Joined}
+use Rattle.eliminator.specs.Steps.{Shorter, NoShorter, Lowered, Relaxed, marked, OneCell, RowPart, Part, Whole, Lower, Near, Joined}
 use Rattle.eliminator.specs.State.{Bears}
 use Rattle.eliminator.proofs.Visiting.{Seen, Waits, never, out, other, still, left, waits-on, seen-more, seen-here, seen-less}
 
 swapped : {K : Type 0} {A : Arithmetic} {amount : K → List ℤ} {k : ℕ} {r x r′ x′ : Cell K} {y z y′ z′ : Option K} → r′ ≡ r → x′ ≡ x → y′ ≡ y → z′ ≡ z → Relaxed A amount k r x y z → Relaxed A amount k r′ x′ y′ z′
 swapped p q s t l = rw (p, q, s, t) l
 
+-- a lower sum as the new worked bound, and a worked bound that stays
+lowered : {K : Type 0} {A : Arithmetic} (L : Lawful A) (amount : K → List ℤ) (proper : (x : K) → Amount A (amount x)) (k : ℕ) (old : Cell K) (s : K) (y z : Option K) → Shorter A amount y z (old .worked) s →
+    Relaxed A amount k (record { bound = old .bound; worked = Some s; via = Some k; distance = old .distance; by = old .by }) old y z
+lowered {K} {A} L amount proper k old s y z h = record {
+  force = refl;
+  either = inr (record { front = h .front; back = h .back; sum = s; front-is = h .front-is; back-is = h .back-is; sum-is = refl; via-is = refl; adds = h .adds; less = h .less });
+  tries = λ b c p q _.
+      let e : b ≡ h .front = cc in
+      let f : c ≡ h .back = cc in
+      (s, refl, rw (e, f, ← h .adds) (L .reflexive (amount s) (proper s)));
+}
+
+kept : {K : Type 0} {A : Arithmetic} {amount : K → List ℤ} {k : ℕ} {old : Cell K} {y z : Option K} → NoShorter A amount y z (old .worked) → Relaxed A amount k old old y z
+kept h = record { force = refl; either = inl refl; tries = h }
+
 module _ {K : Type 0} {A : Arithmetic} {amount : K → List ℤ} {n k : ℕ} where
-  -- a written cell
-  pub one-cell : (i j : ℕ) (xs ys : Grid K) (v a b c : Cell K) → a ≡ xs i j → b ≡ xs i k → c ≡ xs k j → Relaxed A amount k v a (b .worked) (c .worked) → Written n i j v xs ys → OneCell A amount n k i j xs ys
-  one-cell i j xs ys v a b c p q s less w = record {
-    here = swapped (w .here) (sym p) (ap (λ (t : Cell K). t .worked) (sym q)) (ap (λ (t : Cell K). t .worked) (sym s)) less;
+  -- a written cell, and none written
+  pub cell-lowered : (L : Lawful A) (proper : (x : K) → Amount A (amount x)) (i j : ℕ) (xs ys : Grid K) (a b c v : Cell K) (s : K) → a ≡ xs i j → b ≡ xs i k → c ≡ xs k j → Shorter A amount (b .worked) (c .worked) (a .worked) s →
+      v ≡ record { bound = a .bound; worked = Some s; via = Some k; distance = a .distance; by = a .by } → Written n i j v xs ys → OneCell A amount n k i j xs ys
+  cell-lowered L proper i j xs ys a b c v s p q r h e w = record {
+    here = swapped (w .here ∙ e) (sym p) (ap (λ (t : Cell K). t .worked) (sym q)) (ap (λ (t : Cell K). t .worked) (sym r)) (lowered L amount proper k a s (b .worked) (c .worked) h);
     elsewhere = w .elsewhere;
+  }
+
+  pub cell-kept : (i j : ℕ) (xs : Grid K) (a b c : Cell K) → a ≡ xs i j → b ≡ xs i k → c ≡ xs k j → NoShorter A amount (b .worked) (c .worked) (a .worked) → OneCell A amount n k i j xs xs
+  cell-kept i j xs a b c p q r h = record {
+    here = swapped (sym p) (sym p) (ap (λ (t : Cell K). t .worked) (sym q)) (ap (λ (t : Cell K). t .worked) (sym r)) (kept h);
+    elsewhere = λ x y hx hy off. refl;
   }
 
   pub row-start : (i : ℕ) (mine : Marks) (xs : Grid K) → RowPart A amount n k i (Seen mine mine) xs xs

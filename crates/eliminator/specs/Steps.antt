@@ -14,6 +14,19 @@ use Rattle.marks.specs.Sets.{has}
 use Rattle.table.specs.declared.cell.Cell.{Cell}
 use Rattle.eliminator.specs.Views.{Grid}
 
+-- s is the sum of y and z, and less than old
+pub record Shorter {K : Type 0} (A : Arithmetic) (amount : K → List ℤ) (y z old : Option K) (s : K) : Type 0 where
+  pub front : K
+  pub back : K
+  pub front-is : y ≡ Some front
+  pub back-is : z ≡ Some back
+  pub adds : amount s ≡ A .plus (amount front) (amount back)
+  pub less : (a : K) → old ≡ Some a → AtMost A (amount a) (amount s) → ⊥
+
+-- no sum of y and z is less than old
+abbrev pub NoShorter : {K : Type 0} → (A : Arithmetic) → (K → List ℤ) → Option K → Option K → Option K → Type 0
+NoShorter {K} A amount y z old = (b c : K) → y ≡ Some b → z ≡ Some c → A .size (amount b) + A .size (amount c) ≤ 2 ^ 60 → (a : K) × (old ≡ Some a) × AtMost A (amount a) (A .plus (amount b) (amount c))
+
 -- r was lowered to the sum of y and z, by k
 pub record Lowered {K : Type 0} (A : Arithmetic) (amount : K → List ℤ) (k : ℕ) (r old : Cell K) (y z : Option K) : Type 0 where
   pub front : K

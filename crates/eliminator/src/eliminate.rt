@@ -6,9 +6,10 @@ ghost use lib.Dec.{T as True};
 ghost use lib.ListN.{length};
 ghost use Rattle.kinds.specs.Arithmetic.{Arithmetic, AtMost};
 ghost use Rattle.std.specs.declared.option.Option.the-variants.{Some, None};
+ghost use Rattle.std.specs.Options.{Cases};
 ghost use Rattle.marks.specs.Sets.{has};
 ghost use Rattle.eliminator.specs.Views.{view};
-ghost use Rattle.eliminator.specs.Steps.{Relaxed, OneCell, RowPart, Part, Lower, Near, Joined};
+ghost use Rattle.eliminator.specs.Steps.{NoShorter, Shorter, OneCell, RowPart, Part, Lower, Near, Joined};
 ghost use Rattle.eliminator.specs.State.{SameForce, Falls, Bears, Outcome};
 use super::ranks::at_ranks;
 use super::ranks::put_ranks;
@@ -33,32 +34,14 @@ pub fn improves<K: Kind>(sum: K, old: Option<K>) -> bool
     }
 }
 
-// The lesser of the worked bound and the sum of two by rank k.
-fn relaxed<K: Kind>(old: Cell<K>, front: Option<K>, back: Option<K>, k: u8) -> Cell<K>
-    ensures { λ r. ⌜ Relaxed (K·Kind .arithmetic) (K·Kind .amount) k r old front back ⌝ }
+// The sum of two bounds, where it is less than what is there.
+pub fn shorter<K: Kind>(front: Option<K>, back: Option<K>, old: Option<K>) -> Option<K>
+    ensures { λ r. ⌜ Cases r (NoShorter (K·Kind .arithmetic) (K·Kind .amount) front back old) (λ s. Shorter (K·Kind .arithmetic) (K·Kind .amount) front back old s) ⌝ }
 {
-    match front {
-        None => old,
-        Some(x) => match back {
-            None => old,
-            Some(y) => match x.sum(y) {
-                None => old,
-                Some(s) => {
-                    if improves(s, old.worked) {
-                        Cell {
-                            bound: old.bound,
-                            worked: Some(s),
-                            via: Some(k),
-                            distance: old.distance,
-                            by: old.by,
-                        }
-                    } else {
-                        old
-                    }
-                }
-            },
-        },
-    }
+    let x = front?;
+    let y = back?;
+    let s = x.sum(y)?;
+    if improves(s, old) { Some(s) } else { None }
 }
 
 fn relax_cell<K: Kind>(cells: &mut [Cell<K>], order: &EventOrder, k: usize, i: usize, j: usize)
@@ -72,13 +55,16 @@ fn relax_cell<K: Kind>(cells: &mut [Cell<K>], order: &EventOrder, k: usize, i: u
     let old = at_ranks(cells, order, i, j);
     let front = at_ranks(cells, order, i, k);
     let back = at_ranks(cells, order, k, j);
-    put_ranks(
-        cells,
-        order,
-        i,
-        j,
-        relaxed(old, front.worked, back.worked, k as u8),
-    );
+    if let Some(s) = shorter(front.worked, back.worked, old.worked) {
+        let new = Cell {
+            bound: old.bound,
+            worked: Some(s),
+            via: Some(k as u8),
+            distance: old.distance,
+            by: old.by,
+        };
+        put_ranks(cells, order, i, j, new);
+    }
 }
 
 // The bounds from rank i to the others become the lesser of themselves and the sums by rank k.

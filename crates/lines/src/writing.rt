@@ -89,7 +89,13 @@ pub fn write_counts(place: &mut [u8], width: u32, fill: u32, looks: u32) -> Opti
 }
 
 // A pair of events with both ends of its window.
-pub fn write_window(place: &mut [u8], from: u8, to: u8, low: Option<i64>, high: Option<i64>) -> Option<usize>
+pub fn write_window(
+    place: &mut [u8],
+    from: u8,
+    to: u8,
+    low: Option<i64>,
+    high: Option<i64>,
+) -> Option<usize>
     ensures answer { λ r. ⌜ r ≡ told (fits-in (window-text from to low high) (now (place .entry))) (window-text from to low high) ⌝ }
     ensures place { λ _. ⌜ now (place .exit) ≡ laid (fits-in (window-text from to low high) (now (place .entry))) (window-text from to low high) (now (place .entry)) ⌝ }
     ensures short { λ _. ⌜ length (window-text from to low high) ≤ 50 ⌝ }

@@ -22,12 +22,40 @@ use Rattle.sweeper.specs.declared.least.Least.{Least}
 use Rattle.sweeper.specs.Sums.{Leasts, least-of, leasts, Parts}
 use Rattle.marks.specs.declared.set.Marks.{Marks}
 use Rattle.marks.specs.Sets.{has}
-use Rattle.eliminator.specs.Steps.{Lower, Near}
-use Rattle.sweeper.specs.Best.{Fell, Lows, Best, SameWork, Settles, Paired, Into, Out, Done}
+use Rattle.eliminator.specs.Steps.{Shorter, NoShorter, Lower, Near}
+use Rattle.sweeper.specs.Best.{Best, SameWork, Settles, Paired, Into, Out, Done}
 use Rattle.eliminator.proofs.Visiting.{Seen, Waits, never, other, still, seen-more, seen-here, seen-less}
 
 abbrev pub made : {K : Type 0} → Option K → Least K
 made o = record { sum = o; by = None }
+
+-- r is old, or a sum of y and z by j that is less
+pub record Fell {K : Type 0} (A : Arithmetic) (amount : K → List ℤ) (j : ℕ) (r old : Least K) (y z : Option K) : Type 0 where
+  pub front : K
+  pub back : K
+  pub sum : K
+  pub front-is : y ≡ Some front
+  pub back-is : z ≡ Some back
+  pub sum-is : r .sum ≡ Some sum
+  pub by-is : r .by ≡ Some j
+  pub adds : amount sum ≡ A .plus (amount front) (amount back)
+  pub less : (a : K) → old .sum ≡ Some a → AtMost A (amount a) (amount sum) → ⊥
+
+pub record Lows {K : Type 0} (A : Arithmetic) (amount : K → List ℤ) (j : ℕ) (r old : Least K) (y z : Option K) : Type 0 where
+  pub either : (r ≡ old) ⊎ Fell A amount j r old y z
+  pub tries : (b c : K) → y ≡ Some b → z ≡ Some c → A .size (amount b) + A .size (amount c) ≤ 2 ^ 60 → (a : K) × (r .sum ≡ Some a) × AtMost A (amount a) (A .plus (amount b) (amount c))
+
+pub fell : {K : Type 0} {A : Arithmetic} (L : Lawful A) (amount : K → List ℤ) (proper : (x : K) → Amount A (amount x)) (j : ℕ) (old : Least K) (s : K) (y z : Option K) → Shorter A amount y z (old .sum) s → Lows A amount j (record { sum = Some s; by = Some j }) old y z
+fell {A = A} L amount proper j old s y z h = record {
+  either = inr (record { front = h .front; back = h .back; sum = s; front-is = h .front-is; back-is = h .back-is; sum-is = refl; by-is = refl; adds = h .adds; less = h .less });
+  tries = λ b c p q _.
+      let e : b ≡ h .front = cc in
+      let f : c ≡ h .back = cc in
+      (s, refl, rw (e, f, ← h .adds) (L .reflexive (amount s) (proper s)));
+}
+
+pub stayed : {K : Type 0} {A : Arithmetic} (amount : K → List ℤ) (j : ℕ) (old : Least K) (y z : Option K) → NoShorter A amount y z (old .sum) → Lows A amount j old old y z
+stayed amount j old y z h = record { either = inl refl; tries = h }
 
 module _ {K : Type 0} {A : Arithmetic} (L : Lawful A) (amount : K → List ℤ) (proper : (x : K) → Amount A (amount x)) (skip : ℕ) (d : Option K) (f g : ℕ → Option K) where
   pub best-start : (S : ℕ → Type 0) (r : Least K) → r ≡ made d → ((q : ℕ) → ¬ (S q)) → Best A amount S skip d f g r

@@ -16,21 +16,6 @@ use Rattle.eliminator.specs.State.{Forced, Works, Ready, Stage}
 use Rattle.sweeper.specs.declared.least.Least.{Least}
 use Rattle.sweeper.specs.Sums.{Leasts, least-of, leasts, Sums, Parts, Led}
 
-pub record Fell {K : Type 0} (A : Arithmetic) (amount : K → List ℤ) (j : ℕ) (r old : Least K) (y z : Option K) : Type 0 where
-  pub front : K
-  pub back : K
-  pub sum : K
-  pub front-is : y ≡ Some front
-  pub back-is : z ≡ Some back
-  pub sum-is : r .sum ≡ Some sum
-  pub by-is : r .by ≡ Some j
-  pub adds : amount sum ≡ A .plus (amount front) (amount back)
-  pub less : (a : K) → old .sum ≡ Some a → AtMost A (amount a) (amount sum) → ⊥
-
-pub record Lows {K : Type 0} (A : Arithmetic) (amount : K → List ℤ) (j : ℕ) (r old : Least K) (y z : Option K) : Type 0 where
-  pub either : (r ≡ old) ⊎ Fell A amount j r old y z
-  pub tries : (b c : K) → y ≡ Some b → z ≡ Some c → A .size (amount b) + A .size (amount c) ≤ 2 ^ 60 → (a : K) × (r .sum ≡ Some a) × AtMost A (amount a) (A .plus (amount b) (amount c))
-
 -- r is the least of d and the sums of f and g over the ranks of S but skip
 pub record Best {K : Type 0} (A : Arithmetic) (amount : K → List ℤ) (S : ℕ → Type 0) (skip : ℕ) (d : Option K) (f g : ℕ → Option K) (r : Least K) : Type 0 where
   pub plain : r .by ≡ None → r .sum ≡ d

@@ -7,41 +7,16 @@ ghost use Rattle.kinds.specs.Arithmetic.{Arithmetic, Lawful};
 ghost use Rattle.marks.specs.Sets.{has};
 ghost use Rattle.eliminator.specs.Views.{view};
 ghost use Rattle.eliminator.specs.Steps.{Near};
-ghost use Rattle.sweeper.specs.Best.{Lows, Best, Settles, Paired, Swept};
+ghost use Rattle.sweeper.specs.Best.{Best, Settles, Paired, Swept};
 use super::least::Least;
-use eliminator::eliminate::improves;
 use eliminator::eliminate::lower;
+use eliminator::eliminate::shorter;
 use eliminator::ranks::at_ranks;
 use eliminator::ranks::put_ranks;
 use kinds::kind::Kind;
 use marks::set::Marks;
 use order::event_order::EventOrder;
 use table::cell::Cell;
-
-// The lesser of the sum so far and the sum of two by rank j.
-fn lesser<K: Kind>(old: Least<K>, front: Option<K>, back: Option<K>, j: u8) -> Least<K>
-    ensures { λ r. ⌜ Lows (K·Kind .arithmetic) (K·Kind .amount) j r old front back ⌝ }
-{
-    match front {
-        None => old,
-        Some(x) => match back {
-            None => old,
-            Some(y) => match x.sum(y) {
-                None => old,
-                Some(s) => {
-                    if improves(s, old.sum) {
-                        Least {
-                            sum: Some(s),
-                            by: Some(j),
-                        }
-                    } else {
-                        old
-                    }
-                }
-            },
-        },
-    }
-}
 
 // The distance from rank i to rank k: the worked bound, or by way of another lower neighbour of k.
 fn best_into<K: Kind>(
@@ -58,18 +33,19 @@ fn best_into<K: Kind>(
     ensures { λ r. ⌜ Best (K·Kind .arithmetic) (K·Kind .amount) (λ q. has mine q ≡ true) i (view (now (order .entry)) (now (cells .entry)) i k .worked) (λ q. view (now (order .entry)) (now (cells .entry)) i q .distance) (λ q. view (now (order .entry)) (now (cells .entry)) q k .worked) r ⌝ }
 {
     let direct = at_ranks(cells, order, i, k);
-    let mut best = Least {
-        sum: direct.worked,
-        by: None,
-    };
+    let mut sum = direct.worked;
+    let mut by = None;
     let mut rest = mine.without(i);
     while let Some(j) = rest.first() {
         rest = rest.without(j);
         let front = at_ranks(cells, order, i, j);
         let back = at_ranks(cells, order, j, k);
-        best = lesser(best, front.distance, back.worked, j as u8);
+        if let Some(s) = shorter(front.distance, back.worked, sum) {
+            sum = Some(s);
+            by = Some(j as u8);
+        }
     }
-    best
+    Least { sum, by }
 }
 
 // The distance from rank k to rank i.
@@ -87,18 +63,19 @@ fn best_out<K: Kind>(
     ensures { λ r. ⌜ Best (K·Kind .arithmetic) (K·Kind .amount) (λ q. has mine q ≡ true) i (view (now (order .entry)) (now (cells .entry)) k i .worked) (λ q. view (now (order .entry)) (now (cells .entry)) k q .worked) (λ q. view (now (order .entry)) (now (cells .entry)) q i .distance) r ⌝ }
 {
     let direct = at_ranks(cells, order, k, i);
-    let mut best = Least {
-        sum: direct.worked,
-        by: None,
-    };
+    let mut sum = direct.worked;
+    let mut by = None;
     let mut rest = mine.without(i);
     while let Some(j) = rest.first() {
         rest = rest.without(j);
         let front = at_ranks(cells, order, k, j);
         let back = at_ranks(cells, order, j, i);
-        best = lesser(best, front.worked, back.distance, j as u8);
+        if let Some(s) = shorter(front.worked, back.distance, sum) {
+            sum = Some(s);
+            by = Some(j as u8);
+        }
     }
-    best
+    Least { sum, by }
 }
 
 // Writes a distance, and leaves what the elimination left.

@@ -16,8 +16,51 @@ use table::grid::blank;
 
 // Three events: a master's call, a drive's answer, and the end of the cycle.
 const SHEET: [u8; 45] = [
-    1, 0, 3, 1, 3, 1, 0, 11, 2, 0, 1, 0, 0, 0, 0, 0, 0, 0, 100, 0, 11, 2, 1, 0, 255, 255, 255, 255, 255, 255, 255, 216, 0,
-    11, 2, 1, 2, 0, 0, 0, 0, 0, 0, 0, 50,
+    1,
+    0,
+    3,
+    1,
+    3,
+    1,
+    0,
+    11,
+    2,
+    0,
+    1,
+    0,
+    0,
+    0,
+    0,
+    0,
+    0,
+    0,
+    100,
+    0,
+    11,
+    2,
+    1,
+    0,
+    255,
+    255,
+    255,
+    255,
+    255,
+    255,
+    255,
+    216,
+    0,
+    11,
+    2,
+    1,
+    2,
+    0,
+    0,
+    0,
+    0,
+    0,
+    0,
+    0,
+    50,
 ];
 
 fn describe<K: Kind + Display>(rt: &impl Print, call: &Call<'_, K>) -> Result<(), AnyError> {
@@ -57,7 +100,12 @@ fn show_end<K: Kind + Display>(rt: &impl Print, end: Option<K>) -> Result<(), An
     Ok(())
 }
 
-fn show_asked<K: Kind + Display>(rt: &impl Print, from: usize, to: usize, asked: Asked<K>) -> Result<(), AnyError> {
+fn show_asked<K: Kind + Display>(
+    rt: &impl Print,
+    from: usize,
+    to: usize,
+    asked: Asked<K>,
+) -> Result<(), AnyError> {
     print!(rt, "  from {from} to {to}: distance")?;
     match asked.distance {
         Ok(distance) => show_end(rt, distance)?,
@@ -75,7 +123,11 @@ fn show_asked<K: Kind + Display>(rt: &impl Print, from: usize, to: usize, asked:
     Ok(())
 }
 
-fn show_closing(rt: &impl Print, closing: Result<(), Refusal>, place: &[u8]) -> Result<(), AnyError> {
+fn show_closing(
+    rt: &impl Print,
+    closing: Result<(), Refusal>,
+    place: &[u8],
+) -> Result<(), AnyError> {
     print!(rt, "  close: ")?;
     match closing {
         Ok(()) => println!(rt, "closed")?,
@@ -92,7 +144,13 @@ fn show_closing(rt: &impl Print, closing: Result<(), Refusal>, place: &[u8]) -> 
 }
 
 // Performs the calls on one net over a table of 16 cells, and tells all answers.
-fn plan<K: Kind + Display>(rt: &impl Print, title: &str, calls: &[Call<'_, K>], from: usize, to: usize) -> Result<(), AnyError> {
+fn plan<K: Kind + Display>(
+    rt: &impl Print,
+    title: &str,
+    calls: &[Call<'_, K>],
+    from: usize,
+    to: usize,
+) -> Result<(), AnyError> {
     println!(rt, "{title}")?;
     let mut table = [blank(); 16];
     let mut place = [0u8; 4];
@@ -125,8 +183,22 @@ fn run(rt: &impl Print) -> Result<(), AnyError> {
     plan(rt, "a cycle that can be kept", &kept, 0, 2)?;
     let broken = [
         Call::Begin(2),
-        Call::Require(0, 1, StrictMicros { number: 5, mark: -1 }),
-        Call::Require(1, 0, StrictMicros { number: -5, mark: 0 }),
+        Call::Require(
+            0,
+            1,
+            StrictMicros {
+                number: 5,
+                mark: -1,
+            },
+        ),
+        Call::Require(
+            1,
+            0,
+            StrictMicros {
+                number: -5,
+                mark: 0,
+            },
+        ),
         Call::Close(1),
         Call::Close(2),
     ];

@@ -4,7 +4,7 @@ use native.Mathlib.Omega.{arith}
 use borrow.Author.Needs.{needs}
 use Rattle.table.specs.declared.cell.Cell.{Cell}
 use Rattle.eliminator.proofs.Visiting.{waits-start, waits-on, fewer, never, out, still}
-use Rattle.sweeper.proofs.Bests.{made, best-start, best-turn, best-done}
+use Rattle.sweeper.proofs.Bests.{made, fell, stayed, best-start, best-turn, best-done}
 use Rattle.sweeper.proofs.sweep.best_out.Needs as need
 
 pub loop-j-holds : need.loop-j-holds
@@ -26,12 +26,23 @@ at-ranks-back-requires g c κs =
 pub loop-j-less : need.loop-j-less
 loop-j-less g c = fewer (c .loop-j .rest) _ _ (c .without-rest-in-Some .ensures) (c .in-Some .ensures tt .least .0) (c .in-Some .ensures tt .least .1)
 
+pub loop-j-less-in-Some-shorter : need.loop-j-less-in-Some-shorter
+loop-j-less-in-Some-shorter g c = fewer (c .loop-j .rest) _ _ (c .without-rest-in-Some .ensures) (c .in-Some .ensures tt .least .0) (c .in-Some .ensures tt .least .1)
+
+pub loop-j-again-in-Some-shorter : need.loop-j-again-in-Some-shorter
+loop-j-again-in-Some-shorter g c = (
+  waits-on (c .loop-j .rest) _ _ (c .without-rest-in-Some .ensures) (c .without-rest .result) (c .loop-j .inv .0),
+  best-turn (g .K·Kind·met .lawful) (g .K·Kind .amount) (g .K·Kind·met .amounts) _ _ _ _ (c .without-rest .result) (c .loop-j .rest) _ (c .in-Some .j) _ _ _ _
+      (out (c .args .mine) _ _ (c .without-rest .ensures)) (c .loop-j .inv .0) (c .in-Some .ensures tt .least .1) (c .without-rest-in-Some .ensures)
+      (ap (λ (t : Cell (g .K .Denot)). t .worked) (c .at-ranks-front .ensures)) (ap (λ (t : Cell (g .K .Denot)). t .distance) (c .at-ranks-back .ensures)) (c .loop-j .inv .1) (fell (g .K·Kind·met .lawful) (g .K·Kind .amount) (g .K·Kind·met .amounts) (c .in-Some .j) (record { sum = c .loop-j .sum; by = c .loop-j .by }) _ _ _ (c .in-Some-shorter .ensures tt)),
+)
+
 pub loop-j-again : need.loop-j-again
 loop-j-again g c = (
   waits-on (c .loop-j .rest) _ _ (c .without-rest-in-Some .ensures) (c .without-rest .result) (c .loop-j .inv .0),
   best-turn (g .K·Kind·met .lawful) (g .K·Kind .amount) (g .K·Kind·met .amounts) _ _ _ _ (c .without-rest .result) (c .loop-j .rest) _ (c .in-Some .j) _ _ _ _
       (out (c .args .mine) _ _ (c .without-rest .ensures)) (c .loop-j .inv .0) (c .in-Some .ensures tt .least .1) (c .without-rest-in-Some .ensures)
-      (ap (λ (t : Cell (g .K .Denot)). t .worked) (c .at-ranks-front .ensures)) (ap (λ (t : Cell (g .K .Denot)). t .distance) (c .at-ranks-back .ensures)) (c .loop-j .inv .1) (c .lesser-best .ensures),
+      (ap (λ (t : Cell (g .K .Denot)). t .worked) (c .at-ranks-front .ensures)) (ap (λ (t : Cell (g .K .Denot)). t .distance) (c .at-ranks-back .ensures)) (c .loop-j .inv .1) (stayed (g .K·Kind .amount) (c .in-Some .j) (record { sum = c .loop-j .sum; by = c .loop-j .by }) _ _ (c .in-rest-shorter .ensures tt)),
 )
 
 pub returns : need.returns

@@ -1,3 +1,4 @@
+-- The digits of a number: those of its tenth, and the last one.
 use native.Mathlib.Omega.{arith}
 use mathlib.Core.Path.{_≡_, ap, _∙_}
 use mathlib.Core.List.{[], _∷_, append-assoc}

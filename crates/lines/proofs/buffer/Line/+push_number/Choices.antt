@@ -1,3 +1,4 @@
+-- The number falls with each digit.
 use Rattle.lines.proofs.buffer.Line.+push_number.Given as given
 
 abbrev pub μ-push-number : given.MeasureT-push-number

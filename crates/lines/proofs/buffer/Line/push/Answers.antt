@@ -1,3 +1,4 @@
+-- A byte more.
 use borrow.Author.Needs.{needs}
 use Rattle.std.proofs.shelf.Lists.{take-more-set}
 use Rattle.lines.proofs.buffer.Line.push.Needs as need

@@ -1,6 +1,6 @@
+-- A number more after each space.
 use native.Mathlib.Omega.{arith}
-use mathlib.Core.Path.{_≡_, ap}
-use lib.ListN.{take}
+use mathlib.Core.Path.{ap}
 use Rattle.std.proofs.shelf.Lists.{take-all}
 use Rattle.lines.specs.Held.{held}
 use Rattle.lines.specs.Fields.{numbered}

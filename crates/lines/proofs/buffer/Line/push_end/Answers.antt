@@ -1,3 +1,4 @@
+-- A signed number of 64 bits has at most twenty bytes.
 use borrow.Author.Needs.{needs}
 use Rattle.std.proofs.shelf.Decimals.{length-signed-le}
 use Rattle.lines.proofs.buffer.Line.push_end.Needs as need

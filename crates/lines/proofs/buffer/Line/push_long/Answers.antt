@@ -1,3 +1,4 @@
+-- A number of 64 bits has at most twenty digits.
 use borrow.Author.Needs.{needs}
 use Rattle.std.proofs.shelf.Decimals.{length-decimal-le}
 use Rattle.lines.proofs.buffer.Line.push_long.Needs as need

@@ -1,3 +1,4 @@
+-- A byte has at most three digits.
 use borrow.Author.Needs.{needs}
 use Rattle.std.proofs.shelf.Decimals.{length-decimal-le}
 use Rattle.lines.proofs.buffer.Line.push_short.Needs as need

@@ -1,6 +1,5 @@
+-- A byte more of the word.
 use native.Mathlib.Omega.{arith}
-use mathlib.Core.Path.{_≡_, ap}
-use lib.ListN.{take}
 use Rattle.std.proofs.shelf.Lists.{take-all}
 use Rattle.lines.specs.Held.{held}
 use Rattle.lines.proofs.Texts.{word-more}

@@ -1,3 +1,4 @@
+-- The bytes written so far.
 use mathlib.Core.Path.{_≡_}
 use mathlib.Core.List.{_++_}
 use Prim.Native.Nat.{_+_}

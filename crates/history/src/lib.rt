@@ -1,0 +1,3 @@
+// Every succession of calls on one net, and the law that holds after it.
+pub mod call;
+pub mod performing;

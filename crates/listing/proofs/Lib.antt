@@ -1,0 +1,4 @@
+mod Laying
+mod PairCounts
+mod Written
+mod Answering

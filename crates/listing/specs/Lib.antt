@@ -1,0 +1,4 @@
+pub mod Texts
+pub mod Standing
+pub mod Listings
+pub mod Asked

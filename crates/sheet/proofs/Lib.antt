@@ -1,0 +1,9 @@
+mod Bodies
+mod Nexts
+mod Runs
+mod Requests
+mod Foreseeing
+mod Places
+mod OrderWritten
+mod SheetWritten
+mod RoundTrip
