@@ -17,6 +17,8 @@ use Rattle.marks.specs.declared.set.Marks.{Marks}
 use Rattle.marks.specs.Sets.{has}
 use Rattle.table.specs.declared.cell.Cell.{Cell}
 use Rattle.eliminator.specs.Views.{Grid, Written}
+use Rattle.elimination.proofs.Sweep.{up-to}
+use Rattle.eliminator.specs.Members.{Apart, Lists, Others}
 use Rattle.eliminator.specs.Steps.{Shorter, NoShorter, Lowered, Relaxed, marked, OneCell, RowPart, Part, Whole, Lower, Near, Joined}
 use Rattle.eliminator.specs.State.{Bears}
 use Rattle.eliminator.proofs.Visiting.{Seen, Waits, never, out, other, still, left, waits-on, seen-more, seen-here, seen-less}
@@ -41,21 +43,21 @@ kept h = record { force = refl; either = inl refl; tries = h }
 
 module _ {K : Type 0} {A : Arithmetic} {amount : K → List ℤ} {n k : ℕ} where
   -- a written cell, and none written
-  pub cell-lowered : (L : Lawful A) (proper : (x : K) → Amount A (amount x)) (i j : ℕ) (xs ys : Grid K) (a b c v : Cell K) (s : K) → a ≡ xs i j → b ≡ xs i k → c ≡ xs k j → Shorter A amount (b .worked) (c .worked) (a .worked) s →
+  pub cell-lowered : (L : Lawful A) (proper : (x : K) → Amount A (amount x)) (i j : ℕ) (xs ys : Grid K) (a c v : Cell K) (f : Option K) (s : K) → a ≡ xs i j → f ≡ xs i k .worked → c ≡ xs k j → Shorter A amount f (c .worked) (a .worked) s →
       v ≡ record { bound = a .bound; worked = Some s; via = Some k; distance = a .distance; by = a .by } → Written n i j v xs ys → OneCell A amount n k i j xs ys
-  cell-lowered L proper i j xs ys a b c v s p q r h e w = record {
-    here = swapped (w .here ∙ e) (sym p) (ap (λ (t : Cell K). t .worked) (sym q)) (ap (λ (t : Cell K). t .worked) (sym r)) (lowered L amount proper k a s (b .worked) (c .worked) h);
+  cell-lowered L proper i j xs ys a c v f s p q r h e w = record {
+    here = swapped (w .here ∙ e) (sym p) (sym q) (ap (λ (t : Cell K). t .worked) (sym r)) (lowered L amount proper k a s f (c .worked) h);
     elsewhere = w .elsewhere;
   }
 
-  pub cell-kept : (i j : ℕ) (xs : Grid K) (a b c : Cell K) → a ≡ xs i j → b ≡ xs i k → c ≡ xs k j → NoShorter A amount (b .worked) (c .worked) (a .worked) → OneCell A amount n k i j xs xs
-  cell-kept i j xs a b c p q r h = record {
-    here = swapped (sym p) (sym p) (ap (λ (t : Cell K). t .worked) (sym q)) (ap (λ (t : Cell K). t .worked) (sym r)) (kept h);
+  pub cell-kept : (i j : ℕ) (xs : Grid K) (a c : Cell K) (f : Option K) → a ≡ xs i j → f ≡ xs i k .worked → c ≡ xs k j → NoShorter A amount f (c .worked) (a .worked) → OneCell A amount n k i j xs xs
+  cell-kept i j xs a c f p q r h = record {
+    here = swapped (sym p) (sym p) (sym q) (ap (λ (t : Cell K). t .worked) (sym r)) (kept h);
     elsewhere = λ x y hx hy off. refl;
   }
 
-  pub row-start : (i : ℕ) (mine : Marks) (xs : Grid K) → RowPart A amount n k i (Seen mine mine) xs xs
-  row-start i mine xs = record { done = λ j s. never (s .0) (s .1); same = λ x y p q o. refl }
+  pub row-start : (i : ℕ) (ranks : List ℕ) (xs : Grid K) → RowPart A amount n k i (Others ranks 0 i) xs xs
+  row-start i ranks xs = record { done = λ j s. absurd (omega (arith, s .0 .1)); same = λ x y p q o. refl }
 
   -- one more column
   pub row-next : (i j : ℕ) (S S′ : ℕ → Type 0) (xs ys zs : Grid K) → i < k → k < n → j < k → ¬ (S j) → S′ j → ((q : ℕ) → S q → S′ q) → ((q : ℕ) → S′ q → S q ⊎ (q ≡ j)) → ((q : ℕ) → S′ q → q < k) →
@@ -74,17 +76,41 @@ module _ {K : Type 0} {A : Arithmetic} {amount : K → List ℤ} {n k : ℕ} whe
         ∙ r .same x y p q (elim o [ inl d ↦ inl d | inr d ↦ inr (λ s. d (more y s)) ]);
   }
 
-  -- the same as a loop's turn has it
-  pub row-turn : (i j : ℕ) (mine rest less : Marks) (xs ys zs : Grid K) → i < k → k < n → ((q : ℕ) → has mine q ≡ true → q < k) → Waits mine rest → has rest j ≡ true → ((q : ℕ) → has less q ≡ (has rest q && not (eqb q j))) →
-      RowPart A amount n k i (Seen mine rest) xs ys → OneCell A amount n k i j ys zs → RowPart A amount n k i (Seen mine less) xs zs
-  row-turn i j mine rest less xs ys zs hi hk low w h f r c =
-      row-next i j (Seen mine rest) (Seen mine less) xs ys zs hi hk (low j (w j h)) (λ s. never h (s .1)) (seen-here rest less j f mine w h) (seen-more rest less j f mine) (seen-less rest less j f mine) (λ q s. low q (s .0)) r c
-
-  pub row-done : (i : ℕ) (mine rest : Marks) (xs ys : Grid K) → ((q : ℕ) → has rest q ≡ false) → RowPart A amount n k i (Seen mine rest) xs ys → RowPart A amount n k i (λ q. has mine q ≡ true) xs ys
-  row-done i mine rest xs ys e r = record {
-    done = λ j s. r .done j (s, e j);
-    same = λ x y p q o. r .same x y p q (elim o [ inl d ↦ inl d | inr d ↦ inr (λ s. d (s .0)) ]);
+  -- the same row at columns named another way
+  pub row-as : (i : ℕ) (S S′ : ℕ → Type 0) (xs ys : Grid K) → ((q : ℕ) → S q → S′ q) → ((q : ℕ) → S′ q → S q) → RowPart A amount n k i S xs ys → RowPart A amount n k i S′ xs ys
+  row-as i S S′ xs ys more less r = record {
+    done = λ j s. r .done j (less j s);
+    same = λ x y p q o. r .same x y p q (elim o [ inl d ↦ inl d | inr d ↦ inr (λ s. d (more y s)) ]);
   }
+
+  -- one more of a list
+  module _ (i m t : ℕ) (ranks : List ℕ) (xs ys : Grid K) (columns : (s : ℕ) → s < m → getD ranks s 0 < k) (within : t < m) (r : RowPart A amount n k i (Others ranks t i) xs ys) where
+    more : (q : ℕ) → Others ranks t i q → Others ranks (t + 1) i q
+    more q s = ((s .0 .0, omega (arith, s .0 .1), s .0 .2), s .1)
+
+    less : (q : ℕ) → Others ranks (t + 1) i q → Others ranks t i q ⊎ (q ≡ getD ranks t 0)
+    less q s = elim (up-to t (s .0 .0) (omega (arith, s .0 .1))) [
+      | inl a ↦ inl ((s .0 .0, a, s .0 .2), s .1)
+      | inr e ↦ inr (sym (s .0 .2) ∙ ap (λ (z : ℕ). getD ranks z 0) e)
+    ]
+
+    pub row-front : i < k → k < n → ys i k .worked ≡ xs i k .worked
+    row-front hi hk = ap (λ (c : Cell K). c .worked) (r .same i k (omega arith) hk (inr (λ s. let l = columns (s .0 .0) (omega (arith, s .0 .1)) in omega (arith, s .0 .2))))
+
+    pub row-turn : (zs : Grid K) → i < k → k < n → Apart ranks m → getD ranks t 0 ≢ i → OneCell A amount n k i (getD ranks t 0) ys zs → RowPart A amount n k i (Others ranks (t + 1) i) xs zs
+    row-turn zs hi hk apart off c =
+        row-next i (getD ranks t 0) (Others ranks t i) (Others ranks (t + 1) i) xs ys zs hi hk (columns t within) (λ s. apart (s .0 .0) t (s .0 .1) within (s .0 .2)) ((t, omega arith, refl), off) more less
+        (λ q s. subst (λ (z : ℕ). z < k) (s .0 .2) (columns (s .0 .0) (omega (arith, s .0 .1)))) r c
+
+    pub row-skip : getD ranks t 0 ≡ i → RowPart A amount n k i (Others ranks (t + 1) i) xs ys
+    row-skip e = row-as i (Others ranks t i) (Others ranks (t + 1) i) xs ys more (λ q s. elim (less q s) [ inl a ↦ a | inr f ↦ absurd (s .1 (f ∙ e)) ]) r
+
+  -- all of a list of members
+  pub row-all : (i m : ℕ) (mine others : Marks) (ranks : List ℕ) (xs ys : Grid K) → Lists (λ q. has mine q ≡ true) ranks m → ((q : ℕ) → has others q ≡ (has mine q && not (eqb q i))) →
+      RowPart A amount n k i (Others ranks m i) xs ys → RowPart A amount n k i (λ q. has others q ≡ true) xs ys
+  row-all i m mine others ranks xs ys l g r = row-as i (Others ranks m i) (λ q. has others q ≡ true) xs ys
+      (λ q s. other mine others i g q (s .1) ∙ subst (λ (z : ℕ). has mine z ≡ true) (s .0 .2) (l .member (s .0 .0) (s .0 .1)))
+      (λ q h. let w = still mine others i g q h in (l .found q (w .0), w .1)) r
 
   pub part-start : (mine : Marks) (xs : Grid K) → Part A amount n k (Seen mine mine) (λ q. has mine q ≡ true) xs xs
   part-start mine xs = record { done = λ x y r s d. never (r .0) (r .1); same = λ x y p q o. refl }

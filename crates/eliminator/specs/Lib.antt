@@ -1,4 +1,5 @@
 pub mod Views
 pub mod Begun
+pub mod Members
 pub mod Steps
 pub mod State

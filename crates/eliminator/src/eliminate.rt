@@ -3,14 +3,16 @@ ghost use mathlib.Core.Path.{_≡_};
 ghost use mathlib.Core.Bool.{true, false};
 ghost use Prim.Native.Nat.{ℕ, _+_, _*_, _^_, _<_, _≤_};
 ghost use lib.Dec.{T as True};
-ghost use lib.ListN.{length};
+ghost use lib.ListN.{length, getD};
 ghost use Rattle.kinds.specs.Arithmetic.{Arithmetic, AtMost};
 ghost use Rattle.std.specs.declared.option.Option.the-variants.{Some, None};
 ghost use Rattle.std.specs.Options.{Cases};
 ghost use Rattle.marks.specs.Sets.{has};
 ghost use Rattle.eliminator.specs.Views.{view};
+ghost use Rattle.eliminator.specs.Members.{Apart, Others};
 ghost use Rattle.eliminator.specs.Steps.{NoShorter, Shorter, OneCell, RowPart, Part, Lower, Near, Joined};
 ghost use Rattle.eliminator.specs.State.{SameForce, Falls, Bears, Outcome};
+use super::members::list;
 use super::ranks::at_ranks;
 use super::ranks::put_ranks;
 use kinds::kind::Kind;
@@ -44,18 +46,26 @@ pub fn shorter<K: Kind>(front: Option<K>, back: Option<K>, old: Option<K>) -> Op
     if improves(s, old) { Some(s) } else { None }
 }
 
-fn relax_cell<K: Kind>(cells: &mut [Cell<K>], order: &EventOrder, k: usize, i: usize, j: usize)
+// The bound from rank i to rank j becomes the lesser of itself and the sum by rank k.
+fn relax_cell<K: Kind>(
+    cells: &mut [Cell<K>],
+    order: &EventOrder,
+    k: usize,
+    i: usize,
+    j: usize,
+    front: Option<K>,
+)
     requires fits { ⌜ now order .count * now order .count ≤ length (now cells) ⌝ }
     requires within { ⌜ k < now order .count ⌝ }
     requires row { ⌜ i < k ⌝ }
     requires column { ⌜ j < k ⌝ }
+    requires front { ⌜ front ≡ view (now order) (now cells) i k .worked ⌝ }
     ensures long { λ _. ⌜ length (now (cells .exit)) ≡ length (now (cells .entry)) ⌝ }
     ensures one { λ _. ⌜ OneCell (K·Kind .arithmetic) (K·Kind .amount) (now (order .entry) .count) k i j (view (now (order .entry)) (now (cells .entry))) (view (now (order .entry)) (now (cells .exit))) ⌝ }
 {
     let old = at_ranks(cells, order, i, j);
-    let front = at_ranks(cells, order, i, k);
     let back = at_ranks(cells, order, k, j);
-    if let Some(s) = shorter(front.worked, back.worked, old.worked) {
+    if let Some(s) = shorter(front, back.worked, old.worked) {
         let new = Cell {
             bound: old.bound,
             worked: Some(s),
@@ -67,20 +77,30 @@ fn relax_cell<K: Kind>(cells: &mut [Cell<K>], order: &EventOrder, k: usize, i: u
     }
 }
 
-// The bounds from rank i to the others become the lesser of themselves and the sums by rank k.
-fn relax_row<K: Kind>(cells: &mut [Cell<K>], order: &EventOrder, k: usize, i: usize, others: Marks)
+// The bounds from rank i to the others of the first m ranks become the lesser of themselves and the sums by rank k.
+fn relax_row<K: Kind>(
+    cells: &mut [Cell<K>],
+    order: &EventOrder,
+    k: usize,
+    i: usize,
+    ranks: &[u8],
+    m: usize,
+)
     requires fits { ⌜ now order .count * now order .count ≤ length (now cells) ⌝ }
     requires within { ⌜ k < now order .count ⌝ }
     requires row { ⌜ i < k ⌝ }
-    requires columns { ⌜ ((q : ℕ) → has others q ≡ true → q < k) ⌝ }
-    requires off { ⌜ has others i ≡ false ⌝ }
+    requires room { ⌜ m ≤ length (now ranks) ⌝ }
+    requires columns { ⌜ ((t : ℕ) → t < m → getD (now ranks) t 0 < k) ⌝ }
+    requires apart { ⌜ Apart (now ranks) m ⌝ }
     ensures long { λ _. ⌜ length (now (cells .exit)) ≡ length (now (cells .entry)) ⌝ }
-    ensures part { λ _. ⌜ RowPart (K·Kind .arithmetic) (K·Kind .amount) (now (order .entry) .count) k i (λ q. has others q ≡ true) (view (now (order .entry)) (now (cells .entry))) (view (now (order .entry)) (now (cells .exit))) ⌝ }
+    ensures part { λ _. ⌜ RowPart (K·Kind .arithmetic) (K·Kind .amount) (now (order .entry) .count) k i (Others (now (ranks .entry)) m i) (view (now (order .entry)) (now (cells .entry))) (view (now (order .entry)) (now (cells .exit))) ⌝ }
 {
-    let mut rest = others;
-    while let Some(j) = rest.first() {
-        rest = rest.without(j);
-        relax_cell(cells, order, k, i, j);
+    let front = at_ranks(cells, order, i, k).worked;
+    for t in 0..m {
+        let j = ranks[t] as usize;
+        if j != i {
+            relax_cell(cells, order, k, i, j, front);
+        }
     }
 }
 
@@ -100,11 +120,13 @@ fn take_out<K: Kind>(
     ensures part { λ _. ⌜ Part (K·Kind .arithmetic) (K·Kind .amount) (now (order .entry) .count) k (λ q. has mine q ≡ true) (λ q. has mine q ≡ true) (view (now (order .entry)) (now (cells .entry))) (view (now (order .entry)) (now (cells .exit))) ⌝ }
     ensures joined { λ _. ⌜ Joined (λ q. has mine q ≡ true) mine (now (near .entry)) (now (near .exit)) ⌝ }
 {
+    let mut ranks = [0u8; 128];
+    let m = list(mine, &mut ranks);
     let mut rest = mine;
     while let Some(i) = rest.first() {
         rest = rest.without(i);
         let others = mine.without(i);
-        relax_row(cells, order, k, i, others);
+        relax_row(cells, order, k, i, &ranks, m);
         near[i] = near[i].union(others);
     }
 }

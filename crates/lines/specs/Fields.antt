@@ -25,9 +25,12 @@ end-text (Some number) = signed number
 unfoldable pub line : List ℕ → List (List ℕ) → List ℕ
 line first rest = first ++ (joined further rest ++ (10 ∷ []))
 
--- the most events that a line shows
+-- the most events that a line shows, and the bytes of the longest line: a word, those events and the line's end
 abbrev pub most-shown : ℕ
 most-shown = 32
+
+abbrev pub longest-line : ℕ
+longest-line = 142
 
 -- the counts of a close
 unfoldable pub counts-text : ℕ → ℕ → ℕ → List ℕ

@@ -5,7 +5,8 @@ ghost use Prim.Native.Nat.{_+_, _*_, _<_, _≤_};
 ghost use lib.ListN.{length};
 ghost use Rattle.std.specs.Written.{decimal, signed};
 ghost use Rattle.lines.specs.Held.{held};
-ghost use Rattle.lines.specs.Fields.{end-text, numbered};
+ghost use Rattle.lines.specs.Fields.{end-text, numbered, longest-line};
+use super::buffer::LONGEST_LINE;
 use super::buffer::Line;
 
 impl Line {
@@ -14,13 +15,13 @@ impl Line {
         ensures len { λ r. ⌜ r .len ≡ 0 ⌝ }
     {
         Line {
-            bytes: [0; 142],
+            bytes: [0; LONGEST_LINE],
             len: 0,
         }
     }
 
     pub fn push(&mut self, byte: u8)
-        requires { ⌜ now self .len < 142 ⌝ }
+        requires { ⌜ now self .len < longest-line ⌝ }
         ensures text { λ _. ⌜ held (now (self .exit)) ≡ held (now (self .entry)) ++ (byte ∷ []) ⌝ }
         ensures len { λ _. ⌜ now (self .exit) .len ≡ now (self .entry) .len + 1 ⌝ }
     {
@@ -29,7 +30,7 @@ impl Line {
     }
 
     pub fn push_word(&mut self, word: &[u8])
-        requires { ⌜ now self .len + length (now word) ≤ 142 ⌝ }
+        requires { ⌜ now self .len + length (now word) ≤ longest-line ⌝ }
         ensures text { λ _. ⌜ held (now (self .exit)) ≡ held (now (self .entry)) ++ now (word .entry) ⌝ }
         ensures len { λ _. ⌜ now (self .exit) .len ≡ now (self .entry) .len + length (now (word .entry)) ⌝ }
     {
@@ -39,7 +40,7 @@ impl Line {
     }
 
     pub fn push_number(&mut self, number: u64)
-        requires { ⌜ now self .len + length (decimal number) ≤ 142 ⌝ }
+        requires { ⌜ now self .len + length (decimal number) ≤ longest-line ⌝ }
         ensures text { λ _. ⌜ held (now (self .exit)) ≡ held (now (self .entry)) ++ decimal number ⌝ }
         ensures len { λ _. ⌜ now (self .exit) .len ≡ now (self .entry) .len + length (decimal number) ⌝ }
     {
@@ -51,7 +52,7 @@ impl Line {
     }
 
     pub fn push_signed(&mut self, number: i64)
-        requires { ⌜ now self .len + length (signed number) ≤ 142 ⌝ }
+        requires { ⌜ now self .len + length (signed number) ≤ longest-line ⌝ }
         ensures text { λ _. ⌜ held (now (self .exit)) ≡ held (now (self .entry)) ++ signed number ⌝ }
         ensures len { λ _. ⌜ now (self .exit) .len ≡ now (self .entry) .len + length (signed number) ⌝ }
     {
@@ -64,7 +65,7 @@ impl Line {
 
     // A number of at most three digits.
     pub fn push_short(&mut self, number: u8)
-        requires { ⌜ now self .len + 3 ≤ 142 ⌝ }
+        requires { ⌜ now self .len + 3 ≤ longest-line ⌝ }
         ensures text { λ _. ⌜ held (now (self .exit)) ≡ held (now (self .entry)) ++ decimal number ⌝ }
         ensures len { λ _. ⌜ now (self .exit) .len ≤ now (self .entry) .len + 3 ⌝ }
     {
@@ -73,7 +74,7 @@ impl Line {
 
     // A number of at most twenty digits.
     pub fn push_long(&mut self, number: u64)
-        requires { ⌜ now self .len + 20 ≤ 142 ⌝ }
+        requires { ⌜ now self .len + 20 ≤ longest-line ⌝ }
         ensures text { λ _. ⌜ held (now (self .exit)) ≡ held (now (self .entry)) ++ decimal number ⌝ }
         ensures len { λ _. ⌜ now (self .exit) .len ≤ now (self .entry) .len + 20 ⌝ }
     {
@@ -82,7 +83,7 @@ impl Line {
 
     // The end of a window, at most twenty bytes: a dash where it is open.
     pub fn push_end(&mut self, end: Option<i64>)
-        requires { ⌜ now self .len + 20 ≤ 142 ⌝ }
+        requires { ⌜ now self .len + 20 ≤ longest-line ⌝ }
         ensures text { λ _. ⌜ held (now (self .exit)) ≡ held (now (self .entry)) ++ end-text end ⌝ }
         ensures len { λ _. ⌜ now (self .exit) .len ≤ now (self .entry) .len + 20 ⌝ }
     {
@@ -94,7 +95,7 @@ impl Line {
 
     // Numbers of at most three digits, each after a space.
     pub fn push_all(&mut self, numbers: &[u8])
-        requires { ⌜ now self .len + 4 * length (now numbers) ≤ 142 ⌝ }
+        requires { ⌜ now self .len + 4 * length (now numbers) ≤ longest-line ⌝ }
         ensures text { λ _. ⌜ held (now (self .exit)) ≡ held (now (self .entry)) ++ numbered (now (numbers .entry)) ⌝ }
         ensures len { λ _. ⌜ now (self .exit) .len ≤ now (self .entry) .len + 4 * length (now (numbers .entry)) ⌝ }
     {
@@ -105,7 +106,7 @@ impl Line {
     }
 
     pub fn push_line_end(&mut self)
-        requires { ⌜ now self .len < 142 ⌝ }
+        requires { ⌜ now self .len < longest-line ⌝ }
         ensures text { λ _. ⌜ held (now (self .exit)) ≡ held (now (self .entry)) ++ (10 ∷ []) ⌝ }
         ensures len { λ _. ⌜ now (self .exit) .len ≡ now (self .entry) .len + 1 ⌝ }
     {

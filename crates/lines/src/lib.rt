@@ -1,4 +1,4 @@
 // Lines of text, exact to the byte, into the front of a slice.
-pub mod buffer;
-pub mod building;
+mod buffer;
+mod building;
 pub mod writing;

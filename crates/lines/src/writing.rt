@@ -4,10 +4,13 @@ ghost use mathlib.Core.Bool.{_&&_};
 ghost use Prim.Native.Nat.{_≤_};
 ghost use lib.Dec.{leb};
 ghost use lib.ListN.{length};
-ghost use Rattle.lines.specs.Fields.{counts-text, window-text, contradiction-text, fault-text, most-shown};
+ghost use Rattle.lines.specs.Fields.{counts-text, window-text, contradiction-text, fault-text, most-shown, longest-line};
 ghost use Rattle.lines.specs.Held.{held};
 ghost use Rattle.lines.specs.Placed.{fits-in, told, laid};
 use super::buffer::Line;
+
+// The most events of a contradiction that a line shows.
+const MOST_SHOWN: usize = 32;
 
 // Copies the line to the front of the place.
 fn lay(place: &mut [u8], line: &Line) -> Option<usize>
@@ -103,13 +106,13 @@ pub fn write_window(
     lay(place, &window_line(from, to, low, high))
 }
 
-// A contradiction with the events of its loop; more than 32 are not written.
+// A contradiction with the events of its loop; more than MOST_SHOWN are not written.
 pub fn write_contradiction(place: &mut [u8], events: &[u8]) -> Option<usize>
     ensures answer { λ r. ⌜ r ≡ told (leb (length (now (events .entry))) most-shown && fits-in (contradiction-text (now (events .entry))) (now (place .entry))) (contradiction-text (now (events .entry))) ⌝ }
     ensures place { λ _. ⌜ now (place .exit) ≡ laid (leb (length (now (events .entry))) most-shown && fits-in (contradiction-text (now (events .entry))) (now (place .entry))) (contradiction-text (now (events .entry))) (now (place .entry)) ⌝ }
-    ensures short { λ _. ⌜ (length (now (events .entry)) ≤ most-shown → length (contradiction-text (now (events .entry))) ≤ 142) ⌝ }
+    ensures short { λ _. ⌜ (length (now (events .entry)) ≤ most-shown → length (contradiction-text (now (events .entry))) ≤ longest-line) ⌝ }
 {
-    if events.len() > 32 {
+    if events.len() > MOST_SHOWN {
         return None;
     }
     lay(place, &contradiction_line(events))

@@ -1,12 +1,13 @@
 // What can be wrong with a sheet.
 ghost use mathlib.Core.Path.{_≡_};
-ghost use Rattle.net.specs.Refusals.{reason};
 ghost use Rattle.sheet.specs.Told.{fault-of};
 ghost use Rattle.sheet.specs.declared.fault.RecordFault.the-variants.{Refused as Carried};
 ghost use Rattle.sheet.specs.declared.fault.SheetFault.the-variants.{AtRecord as At};
 use net::refusal::Refusal;
+use net::refusal::RefusalDebug;
+use net::refusal::RefusalPartialEq;
 
-#[derive(Clone, Copy)]
+#[derive(Clone, Copy, Debug, PartialEq, Eq)]
 pub enum RecordFault {
     // no tag, an unknown one, or a length wrong for it
     Malformed,
@@ -18,7 +19,7 @@ pub enum RecordFault {
     Refused(Refusal),
 }
 
-#[derive(Clone, Copy)]
+#[derive(Clone, Copy, Debug, PartialEq, Eq)]
 pub enum SheetFault {
     // no bytes, or a version other than 1
     Version,
@@ -45,26 +46,6 @@ pub impl From<(usize, RecordFault)> for SheetFault as SheetFaultFromPair {
     }
 }
 
-// The number of a refusal.
-pub fn refusal_number(why: Refusal) -> u8
-    ensures { λ r. ⌜ r ≡ reason why .number ⌝ }
-{
-    match why {
-        Refusal::EventsOutOfRange => 1,
-        Refusal::TooFewCells => 2,
-        Refusal::NoSuchEvent => 3,
-        Refusal::SameEvent => 4,
-        Refusal::PlaceTooShort => 5,
-        Refusal::NotClosed => 6,
-        Refusal::TooLarge => 11,
-        Refusal::NothingToWithdraw => 12,
-        Refusal::WrongCount => 13,
-        Refusal::OutsideNet => 14,
-        Refusal::NamedTwice => 15,
-        Refusal::Contradiction(_) => 16,
-    }
-}
-
 impl SheetFault {
     pub fn number(self) -> u8
         ensures { λ r. ⌜ r ≡ fault-of self .number ⌝ }
@@ -76,7 +57,7 @@ impl SheetFault {
                 RecordFault::Malformed => 23,
                 RecordFault::Misplaced => 24,
                 RecordFault::OtherKind => 25,
-                RecordFault::Refused(why) => refusal_number(why),
+                RecordFault::Refused(why) => why.number(),
             },
         }
     }

@@ -4,7 +4,7 @@ ghost use Prim.Native.Nat.{ℕ};
 ghost use Rattle.std.specs.Results.{Cases};
 ghost use Rattle.std.specs.declared.result.Result.the-variants.{Ok, Err};
 ghost use Rattle.net.specs.Refusals.{answered};
-ghost use Rattle.net.specs.State.{State, state, room, outcome, Sound};
+ghost use Rattle.net.specs.State.{State, state, room, outcome, Sound, Untouched};
 ghost use Rattle.net.specs.Kept.{Kept};
 ghost use Rattle.sheet.specs.Codes.{EntryCodes};
 ghost use Rattle.sheet.specs.Outlines.{AsCalls, Ran, RanCoded, IfAmounts, Passed, PassedRecord, Checked};
@@ -124,6 +124,7 @@ fn check<K: Kind>(outline: Outline, sheet: &[u8]) -> Result<(), SheetFault>
 // Reads a sheet into the net, and alters it only if the whole sheet is accepted.
 pub fn read<K: Kind>(net: &mut Net<'_, K>, sheet: &[u8]) -> Result<(), SheetFault>
     ensures reading { λ r. ⌜ reading (faults-told r) (state (K·Kind .amount) (now (net .exit))) ≡ read-sheet (coding (K·Kind .arithmetic) (K·Kind .number) (K·Kind .width) (K·Kind .encoded) (K·Kind .decoded)) (room (now (net .entry))) (now (sheet .entry)) (state (K·Kind .amount) (now (net .entry))) ⌝ }
+    ensures untouched { λ r. ⌜ Untouched r (now (net .entry)) (now (net .exit)) ⌝ }
     ensures calls { λ r. ⌜ AsCalls r (performed-all (K·Kind .arithmetic) (room (now (net .entry))) (calls-of (coding (K·Kind .arithmetic) (K·Kind .number) (K·Kind .width) (K·Kind .encoded) (K·Kind .decoded)) (now (sheet .entry))) (state (K·Kind .amount) (now (net .entry)))) (state (K·Kind .amount) (now (net .exit))) ⌝ }
     ensures again { λ r. ⌜ RewrittenBack (coding (K·Kind .arithmetic) (K·Kind .number) (K·Kind .width) (K·Kind .encoded) (K·Kind .decoded)) r (state (K·Kind .amount) (now (net .exit))) ⌝ }
     ensures amounts { λ r. ⌜ IfAmounts (K·Kind .arithmetic) r (calls-of (coding (K·Kind .arithmetic) (K·Kind .number) (K·Kind .width) (K·Kind .encoded) (K·Kind .decoded)) (now (sheet .entry))) ⌝ }

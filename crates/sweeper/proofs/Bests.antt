@@ -23,13 +23,22 @@ use Rattle.sweeper.specs.Sums.{Leasts, least-of, leasts, Parts}
 use Rattle.marks.specs.declared.set.Marks.{Marks}
 use Rattle.marks.specs.Sets.{has}
 use Rattle.eliminator.specs.Steps.{Shorter, NoShorter, Lower, Near}
-use Rattle.sweeper.specs.Best.{Best, SameWork, Settles, Paired, Into, Out, Done}
-use Rattle.eliminator.proofs.Visiting.{Seen, Waits, never, other, still, seen-more, seen-here, seen-less}
+use Rattle.sweeper.specs.Best.{Best, BestInto, BestOut, SameWork, Settles, Paired, Into, Out, Done}
+use Rattle.eliminator.specs.Members.{Among, Lists}
 
 abbrev pub made : {K : Type 0} → Option K → Least K
 made o = record { sum = o; by = None }
 
--- r is old, or a sum of y and z by j that is less
+pub among-more : (ranks : List ℕ) (t q : ℕ) → Among ranks t q → Among ranks (t + 1) q
+among-more ranks t q s = (s .0, omega (arith, s .1), s .2)
+
+pub among-less : (ranks : List ℕ) (t q : ℕ) → Among ranks (t + 1) q → Among ranks t q ⊎ (q ≡ getD ranks t 0)
+among-less ranks t q s = elim (up-to t (s .0) (omega (arith, s .1))) [
+  | inl a ↦ inl (s .0, a, s .2)
+  | inr e ↦ inr (sym (s .2) ∙ ap (λ (z : ℕ). getD ranks z 0) e)
+]
+
+-- r fell to the sum of y and z, by j
 pub record Fell {K : Type 0} (A : Arithmetic) (amount : K → List ℤ) (j : ℕ) (r old : Least K) (y z : Option K) : Type 0 where
   pub front : K
   pub back : K
@@ -41,6 +50,7 @@ pub record Fell {K : Type 0} (A : Arithmetic) (amount : K → List ℤ) (j : ℕ
   pub adds : amount sum ≡ A .plus (amount front) (amount back)
   pub less : (a : K) → old .sum ≡ Some a → AtMost A (amount a) (amount sum) → ⊥
 
+-- r is old, or fell where the sum is less
 pub record Lows {K : Type 0} (A : Arithmetic) (amount : K → List ℤ) (j : ℕ) (r old : Least K) (y z : Option K) : Type 0 where
   pub either : (r ≡ old) ⊎ Fell A amount j r old y z
   pub tries : (b c : K) → y ≡ Some b → z ≡ Some c → A .size (amount b) + A .size (amount c) ≤ 2 ^ 60 → (a : K) × (r .sum ≡ Some a) × AtMost A (amount a) (A .plus (amount b) (amount c))
@@ -56,6 +66,9 @@ fell {A = A} L amount proper j old s y z h = record {
 
 pub stayed : {K : Type 0} {A : Arithmetic} (amount : K → List ℤ) (j : ℕ) (old : Least K) (y z : Option K) → NoShorter A amount y z (old .sum) → Lows A amount j old old y z
 stayed amount j old y z h = record { either = inl refl; tries = h }
+
+pub least-is : {K : Type 0} {a b : Option K} {x y : Option ℕ} → a ≡ b → x ≡ y → _≡_ {A = Least K} (record { sum = a; by = x }) (record { sum = b; by = y })
+least-is p q = rw (p, q) refl
 
 module _ {K : Type 0} {A : Arithmetic} (L : Lawful A) (amount : K → List ℤ) (proper : (x : K) → Amount A (amount x)) (skip : ℕ) (d : Option K) (f g : ℕ → Option K) where
   pub best-start : (S : ℕ → Type 0) (r : Least K) → r ≡ made d → ((q : ℕ) → ¬ (S q)) → Best A amount S skip d f g r
@@ -97,19 +110,28 @@ module _ {K : Type 0} {A : Arithmetic} (L : Lawful A) (amount : K → List ℤ) 
         )
       ]
 
-  -- as a loop's turn has it
-  pub best-turn : (others rest less : Marks) (j : ℕ) (r r′ : Least K) (y z : Option K) → has others skip ≡ false → Waits others rest → has rest j ≡ true → ((q : ℕ) → has less q ≡ (has rest q && not (eqb q j))) → y ≡ f j → z ≡ g j →
-      Best A amount (Seen others rest) skip d f g r → Lows A amount j r′ r y z → Best A amount (Seen others less) skip d f g r′
-  best-turn others rest less j r r′ y z out w h v p q b l =
-      best-next (Seen others rest) (Seen others less) j r r′ y z (seen-here rest less j v others w h) (seen-more rest less j v others) (seen-less rest less j v others) (λ e. never (subst (λ (q : ℕ). has others q ≡ true) e (w j h)) out) p q b l
+  -- one more of a list
+  pub best-turn : (ranks : List ℕ) (t : ℕ) (r r′ : Least K) (y z : Option K) → getD ranks t 0 ≢ skip → y ≡ f (getD ranks t 0) → z ≡ g (getD ranks t 0) → Best A amount (Among ranks t) skip d f g r → Lows A amount (getD ranks t 0) r′ r y z → Best A amount (Among ranks (t + 1)) skip d f g r′
+  best-turn ranks t r r′ y z off p q b l = best-next (Among ranks t) (Among ranks (t + 1)) (getD ranks t 0) r r′ y z (t, omega arith, refl) (among-more ranks t) (among-less ranks t) off p q b l
 
-  pub best-done : (mine others rest : Marks) (r : Least K) → ((q : ℕ) → has others q ≡ (has mine q && not (eqb q skip))) → ((q : ℕ) → has rest q ≡ false) → Best A amount (Seen others rest) skip d f g r → Best A amount (λ q. has mine q ≡ true) skip d f g r
-  best-done mine others rest r v e b = record {
+  -- and the one to skip
+  pub best-skip : (ranks : List ℕ) (t : ℕ) (r : Least K) → getD ranks t 0 ≡ skip → Best A amount (Among ranks t) skip d f g r → Best A amount (Among ranks (t + 1)) skip d f g r
+  best-skip ranks t r e b = record {
     plain = b .plain;
-    parts = λ j p. let (h, o, t) = b .parts j p in (still mine others skip v j (h .0) .0, o, t);
+    parts = λ j p. let (h, o, w) = b .parts j p in (among-more ranks t j h, o, w);
     keeps = b .keeps;
-    tries = λ j x y h o. b .tries j x y (other mine others skip v j o ∙ h, e j) o;
+    tries = λ j x y h o. elim (among-less ranks t j h) [ inl s ↦ b .tries j x y s o | inr s ↦ absurd (o (s ∙ e)) ];
   }
+
+-- the same at members named another way, and sums that agree there
+pub best-as : {K : Type 0} {A : Arithmetic} {amount : K → List ℤ} (S S′ : ℕ → Type 0) (skip : ℕ) (d d′ : Option K) (f g f′ g′ : ℕ → Option K) (r : Least K) → d′ ≡ d → ((j : ℕ) → S j → S′ j) → ((j : ℕ) → S′ j → S j) →
+    ((j : ℕ) → S j → f′ j ≡ f j) → ((j : ℕ) → S j → g′ j ≡ g j) → Best A amount S skip d f g r → Best A amount S′ skip d′ f′ g′ r
+best-as S S′ skip d d′ f g f′ g′ r k more less p q b = record {
+  plain = λ z. b .plain z ∙ sym k;
+  parts = λ j z. let (s, o, t) = b .parts j z in (more j s, o, record { front = t .front; back = t .back; sum = t .sum; front-is = p j s ∙ t .front-is; back-is = q j s ∙ t .back-is; sum-is = t .sum-is; adds = t .adds });
+  keeps = λ a z. b .keeps a (sym k ∙ z);
+  tries = λ j x y h o s t. let u = less j h in b .tries j x y u o (sym (p j u) ∙ s) (sym (q j u) ∙ t);
+}
 
 -- the same where lower ranks that are no members have nothing to add
 pub best-all : {K : Type 0} {A : Arithmetic} {amount : K → List ℤ} (S : ℕ → Type 0) (m skip : ℕ) (d d′ : Option K) (f g f′ g′ : ℕ → Option K) (r r′ : Least K) → r′ ≡ r → d′ ≡ d → ((j : ℕ) → S j → j < m) →
@@ -162,6 +184,18 @@ paired {A = A} {amount} n k i S a b xs ys zs low within into out p q = record {
   elsewhere = λ x y hx hy u v. q .elsewhere x y hx hy v ∙ p .elsewhere x y hx hy u;
   work = same-more n xs ys zs (p .work) (q .work);
 }
+
+-- the members of a list by their marks
+pub paired-as : {K : Type 0} {A : Arithmetic} {amount : K → List ℤ} (n k i m : ℕ) (mine : Marks) (ranks : List ℕ) (xs ys : Grid K) → Lists (λ q. has mine q ≡ true) ranks m → Paired A amount n k i (Among ranks m) xs ys → Paired A amount n k i (λ q. has mine q ≡ true) xs ys
+paired-as n k i m mine ranks xs ys l p = record {
+  into = best-as (Among ranks m) (λ q. has mine q ≡ true) i _ _ _ _ _ _ _ refl inside (l .found) (λ j h. refl) (λ j h. refl) (p .into);
+  out = best-as (Among ranks m) (λ q. has mine q ≡ true) i _ _ _ _ _ _ _ refl inside (l .found) (λ j h. refl) (λ j h. refl) (p .out);
+  elsewhere = p .elsewhere;
+  work = p .work;
+}
+  where
+    inside : (q : ℕ) → Among ranks m q → has mine q ≡ true
+    inside q s = subst (λ (z : ℕ). has mine z ≡ true) (s .2) (l .member (s .0) (s .1))
 
 which : (k i y x : ℕ) → (y < k) ⊎ ((y ≡ k) × (x < i + 1)) → ((y < k) ⊎ ((y ≡ k) × (x < i))) ⊎ ((y ≡ k) × (x ≡ i))
 which k i y x (inl h) = inl (inl h)

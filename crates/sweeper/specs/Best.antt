@@ -23,6 +23,14 @@ pub record Best {K : Type 0} (A : Arithmetic) (amount : K → List ℤ) (S : ℕ
   pub keeps : (a : K) → d ≡ Some a → (b : K) × (r .sum ≡ Some b) × AtMost A (amount b) (amount a)
   pub tries : (j : ℕ) (b c : K) → S j → j ≢ skip → f j ≡ Some b → g j ≡ Some c → A .size (amount b) + A .size (amount c) ≤ 2 ^ 60 → (a : K) × (r .sum ≡ Some a) × AtMost A (amount a) (A .plus (amount b) (amount c))
 
+module _ {K : Type 0} (A : Arithmetic) (amount : K → List ℤ) where
+  -- the least sum from i to k, and from k to i, over the ranks of S
+  abbrev pub BestInto : (ℕ → Type 0) → ℕ → ℕ → Grid K → Least K → Type 0
+  BestInto S k i xs r = Best A amount S i (xs i k .worked) (λ q. xs i q .distance) (λ q. xs q k .worked) r
+
+  abbrev pub BestOut : (ℕ → Type 0) → ℕ → ℕ → Grid K → Least K → Type 0
+  BestOut S k i xs r = Best A amount S i (xs k i .worked) (λ q. xs k q .worked) (λ q. xs q i .distance) r
+
 -- what the elimination left is the same
 abbrev pub SameWork : {K : Type 0} → ℕ → Grid K → Grid K → Type 0
 SameWork n xs ys = (i j : ℕ) → i < n → j < n → (ys i j .bound ≡ xs i j .bound) × (ys i j .worked ≡ xs i j .worked) × (ys i j .via ≡ xs i j .via)

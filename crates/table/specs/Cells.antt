@@ -13,7 +13,7 @@ use Rattle.table.specs.declared.cell.Cell.{Cell}
 
 -- a cell that holds nothing
 abbrev pub empty : {K : Type 0} → Cell K
-empty = record { bound = None; worked = None; via = None; distance = None; by = None }
+empty = record { bound = None; worked = None; distance = None; via = None; by = None }
 
 -- the cell of the pair (i, j)
 abbrev pub at-cell : {K : Type 0} → ℕ → List (Cell K) → ℕ → ℕ → Cell K

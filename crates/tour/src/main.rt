@@ -12,6 +12,7 @@ use kinds::strict::StrictMicrosKind;
 use net::refusal::Refusal;
 use std::error::AnyError;
 use std::fmt::Display;
+use table::cell::Cell;
 use table::grid::blank;
 
 // Three events: a master's call, a drive's answer, and the end of the cycle.
@@ -100,25 +101,47 @@ fn show_end<K: Kind + Display>(rt: &impl Print, end: Option<K>) -> Result<(), An
     Ok(())
 }
 
+fn show_distance<K: Kind + Display>(
+    rt: &impl Print,
+    distance: Result<Option<K>, Refusal>,
+) -> Result<(), AnyError> {
+    print!(rt, " distance")?;
+    match distance {
+        Ok(distance) => show_end(rt, distance),
+        Err(_) => refused(rt),
+    }
+}
+
+fn show_window<K: Kind + Display>(
+    rt: &impl Print,
+    window: Result<(Option<K>, Option<K>), Refusal>,
+) -> Result<(), AnyError> {
+    print!(rt, ", window")?;
+    match window {
+        Ok((low, high)) => {
+            show_end(rt, low)?;
+            show_end(rt, high)
+        }
+        Err(_) => refused(rt),
+    }
+}
+
+fn refused(rt: &impl Print) -> Result<(), AnyError> {
+    print!(rt, " refused")?;
+    Ok(())
+}
+
 fn show_asked<K: Kind + Display>(
     rt: &impl Print,
     from: usize,
     to: usize,
     asked: Asked<K>,
 ) -> Result<(), AnyError> {
-    print!(rt, "  from {from} to {to}: distance")?;
-    match asked.distance {
-        Ok(distance) => show_end(rt, distance)?,
-        Err(_) => print!(rt, " refused")?,
-    }
-    print!(rt, ", window")?;
-    match asked.window {
-        Ok((low, high)) => {
-            show_end(rt, low)?;
-            show_end(rt, high)?;
-        }
-        Err(_) => print!(rt, " refused")?,
-    }
+    let distance = asked.distance;
+    let window = asked.window;
+    print!(rt, "  from {from} to {to}:")?;
+    show_distance(rt, distance)?;
+    show_window(rt, window)?;
     println!(rt, "")?;
     Ok(())
 }
@@ -143,19 +166,17 @@ fn show_closing(
     Ok(())
 }
 
-// Performs the calls on one net over a table of 16 cells, and tells all answers.
+// Performs the calls on one net over the table, and tells all answers.
 fn plan<K: Kind + Display>(
     rt: &impl Print,
-    title: &str,
+    table: &mut [Cell<K>],
     calls: &[Call<'_, K>],
     from: usize,
     to: usize,
 ) -> Result<(), AnyError> {
-    println!(rt, "{title}")?;
-    let mut table = [blank(); 16];
     let mut place = [0u8; 4];
     let mut answers = [None; 16];
-    let report = perform(&mut table, calls, &mut place, &mut answers, from, to);
+    let report = perform(table, calls, &mut place, &mut answers, from, to);
     for (call, answer) in calls.iter().zip(answers.iter()) {
         describe(rt, call)?;
         show_answer(rt, *answer)?;
@@ -180,7 +201,8 @@ fn run(rt: &impl Print) -> Result<(), AnyError> {
         Call::Rank,
         Call::Close(3),
     ];
-    plan(rt, "a cycle that can be kept", &kept, 0, 2)?;
+    println!(rt, "a cycle that can be kept")?;
+    plan(rt, &mut [blank(); 9], &kept, 0, 2)?;
     let broken = [
         Call::Begin(2),
         Call::Require(
@@ -202,7 +224,8 @@ fn run(rt: &impl Print) -> Result<(), AnyError> {
         Call::Close(1),
         Call::Close(2),
     ];
-    plan(rt, "a cycle with a strict bound that cannot", &broken, 0, 1)
+    println!(rt, "a cycle with a strict bound that cannot")?;
+    plan(rt, &mut [blank(); 4], &broken, 0, 1)
 }
 
 fn main(rt: LibcRuntime) -> Result<(), AnyError> {

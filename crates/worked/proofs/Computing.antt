@@ -9,12 +9,12 @@ use Rattle.order.specs.Elimination.{after, pairs, width-of, fill-of, looks-of}
 use Rattle.order.specs.Ranking.{best, ranking}
 use Rattle.net.specs.State.{begun, required, arranged, ranked}
 use Rattle.sheet.specs.Records.{said}
-use Rattle.sheet.specs.Sheets.{entries, performed-all}
+use Rattle.sheet.specs.Sheets.{next-at, entries, performed-all}
 use Rattle.worked.specs.Examples.{Found}
 use Rattle.worked.specs.Table.{Row, table, computed, expected-of}
 
 pub computes : map computed table ≡ map expected-of table
-unfolding whole-of how-many numbers after pairs width-of fill-of looks-of best ranking begun required arranged ranked said entries performed-all
+unfolding whole-of how-many numbers after pairs width-of fill-of looks-of best ranking begun required arranged ranked said next-at entries performed-all
 computes = refl
 
 pub all-equal : (f g : Row → Found) (rows : List Row) → map f rows ≡ map g rows → All (λ r. f r ≡ g r) rows

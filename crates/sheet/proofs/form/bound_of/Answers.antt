@@ -1,3 +1,4 @@
+-- The bytes of a bound name it, or are not of the kind's length.
 use borrow.Author.Needs.{needs}
 use native.Mathlib.Omega.{arith}
 use mathlib.Core.Path.{_≡_, ap, sym, subst, _∙_}

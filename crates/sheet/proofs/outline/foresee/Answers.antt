@@ -1,3 +1,4 @@
+-- Each call answers by the number of events and of cells alone.
 use borrow.Author.Needs.{needs}
 use mathlib.Core.Path.{_≡_, refl, ap, sym, subst, _∙_}
 use denote.Ref.{now}

@@ -1,3 +1,4 @@
+-- The records so far are checked.
 use mathlib.Core.Path.{_≡_}
 use Prim.Native.Nat.{_-_}
 use lib.ListN.{length, getD}

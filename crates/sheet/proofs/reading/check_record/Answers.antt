@@ -1,3 +1,4 @@
+-- A record that passes leaves the events that were foreseen.
 use Rattle.sheet.specs.Records.{asked}
 use Rattle.sheet.specs.Sheets.{entry}
 use denote.Ref.{now}

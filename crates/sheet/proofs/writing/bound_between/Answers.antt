@@ -1,3 +1,4 @@
+-- The bound told is the one in force.
 use Rattle.table.specs.Cells.{amount-of}
 use Rattle.net.specs.State.{state}
 use Rattle.net.specs.Refusals.{reason}

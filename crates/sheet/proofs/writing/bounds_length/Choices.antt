@@ -1,3 +1,4 @@
+-- The rows so far are counted.
 use mathlib.Core.Path.{_≡_}
 use Prim.Native.Nat.{_≤_, _*_}
 use Rattle.net.specs.State.{state}

@@ -1,3 +1,4 @@
+-- The head, the two events and the bytes of the bound stand after each other.
 use native.Mathlib.Omega.{arith}
 use mathlib.Core.Path.{_≡_, refl, ap, sym, subst, _∙_}
 use mathlib.Core.List.{List, [], _∷_}

@@ -1,3 +1,4 @@
+-- The rows so far are written.
 use Rattle.net.specs.State.{state}
 use Rattle.sheet.specs.Told.{coding}
 use Rattle.sheet.proofs.Places.{AllLaid}

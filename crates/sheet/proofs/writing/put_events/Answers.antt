@@ -1,3 +1,4 @@
+-- The version and the events stand at the front.
 use mathlib.Core.Path.{_≡_, refl, ap, sym, _∙_}
 use mathlib.Core.List.{List, [], _∷_, _++_}
 use lib.ListN.{set, drop}

@@ -1,3 +1,4 @@
+-- One event more is written.
 use native.Mathlib.Omega.{arith}
 use mathlib.Core.Path.{_≡_, refl, ap, sym, subst, _∙_}
 use mathlib.Core.List.{_∷_}

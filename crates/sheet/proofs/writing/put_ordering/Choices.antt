@@ -1,3 +1,4 @@
+-- The events of the ranks so far are written.
 use mathlib.Core.Path.{_≡_}
 use mathlib.Core.List.{_++_}
 use Prim.Native.Nat.{_+_}

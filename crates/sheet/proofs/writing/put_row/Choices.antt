@@ -1,3 +1,4 @@
+-- The pairs so far are written.
 use Rattle.net.specs.State.{state}
 use Rattle.sheet.specs.Told.{coding}
 use Rattle.sheet.proofs.Places.{RowLaid}

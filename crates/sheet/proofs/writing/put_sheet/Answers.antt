@@ -1,3 +1,4 @@
+-- The parts of the sheet stand after each other.
 use native.Mathlib.Omega.{arith}
 use mathlib.Core.Path.{_≡_, refl, ap, sym, _∙_}
 use Prim.Native.Nat.{_+_, _-_}

@@ -1,3 +1,4 @@
+-- The place takes the sheet, or is too short for it.
 use native.Mathlib.Omega.{arith}
 use mathlib.Core.Path.{_≡_, refl, ap, sym, subst, _∙_}
 use Prim.Native.Nat.{_+_}

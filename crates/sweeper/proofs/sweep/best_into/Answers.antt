@@ -1,49 +1,54 @@
--- One member after the other.
+-- One rank after the other.
 use mathlib.Core.Path.{_≡_, refl, sym, ap, _∙_, subst}
+use mathlib.Core.Logic.{inl, inr}
+use Prim.Native.Nat.{_+_}
 use native.Mathlib.Omega.{arith}
 use borrow.Author.Needs.{needs}
+use lib.ListN.{getD}
 use Rattle.table.specs.declared.cell.Cell.{Cell}
-use Rattle.eliminator.proofs.Visiting.{waits-start, waits-on, fewer, never, out, still}
-use Rattle.sweeper.proofs.Bests.{made, fell, stayed, best-start, best-turn, best-done}
+use Rattle.eliminator.specs.Views.{view}
+use Rattle.eliminator.specs.Members.{Among}
+use Rattle.std.proofs.shelf.Tests.{cases-eq}
+use Rattle.sweeper.specs.declared.least.Least.{Least}
+use Rattle.sweeper.specs.Best.{BestInto}
+use Rattle.sweeper.proofs.Bests.{made, fell, stayed, least-is, best-start, best-turn, best-skip}
 use Rattle.sweeper.proofs.sweep.best_into.Needs as need
+use Rattle.sweeper.proofs.sweep.best_into.Needs.{in-Some, in-rest}
 
-pub loop-j-holds : need.loop-j-holds
-loop-j-holds g c = (
-  waits-start (c .without-rest .result),
-  best-start (g .K·Kind·met .lawful) (g .K·Kind .amount) (g .K·Kind·met .amounts) _ _ _ _ _ _ (ap (λ (t : Cell (g .K .Denot)). made {K = g .K .Denot} (t .worked)) (c .at-ranks-direct .ensures)) (λ q s. never (s .0) (s .1)),
-)
-
-pub at-ranks-front-requires : need.at-ranks-front-requires
-at-ranks-front-requires g c κs =
-    let l = c .pre .members (c .in-Some .j) (still (c .args .mine) _ _ (c .without-rest .ensures) (c .in-Some .j) (c .loop-j .inv .0 (c .in-Some .j) (c .in-Some .ensures tt .least .1)) .0) in
-    record { fits = c .pre .fits; row = omega arith; column = omega arith }
-
-pub at-ranks-back-requires : need.at-ranks-back-requires
-at-ranks-back-requires g c κs =
-    let l = c .pre .members (c .in-Some .j) (still (c .args .mine) _ _ (c .without-rest .ensures) (c .in-Some .j) (c .loop-j .inv .0 (c .in-Some .j) (c .in-Some .ensures tt .least .1)) .0) in
-    record { fits = c .pre .fits; row = omega arith; column = omega arith }
-
-pub loop-j-less : need.loop-j-less
-loop-j-less g c = fewer (c .loop-j .rest) _ _ (c .without-rest-in-Some .ensures) (c .in-Some .ensures tt .least .0) (c .in-Some .ensures tt .least .1)
-
-pub loop-j-less-in-Some-shorter : need.loop-j-less-in-Some-shorter
-loop-j-less-in-Some-shorter g c = fewer (c .loop-j .rest) _ _ (c .without-rest-in-Some .ensures) (c .in-Some .ensures tt .least .0) (c .in-Some .ensures tt .least .1)
-
-pub loop-j-again-in-Some-shorter : need.loop-j-again-in-Some-shorter
-loop-j-again-in-Some-shorter g c = (
-  waits-on (c .loop-j .rest) _ _ (c .without-rest-in-Some .ensures) (c .without-rest .result) (c .loop-j .inv .0),
-  best-turn (g .K·Kind·met .lawful) (g .K·Kind .amount) (g .K·Kind·met .amounts) _ _ _ _ (c .without-rest .result) (c .loop-j .rest) _ (c .in-Some .j) _ _ _ _
-      (out (c .args .mine) _ _ (c .without-rest .ensures)) (c .loop-j .inv .0) (c .in-Some .ensures tt .least .1) (c .without-rest-in-Some .ensures)
-      (ap (λ (t : Cell (g .K .Denot)). t .distance) (c .at-ranks-front .ensures)) (ap (λ (t : Cell (g .K .Denot)). t .worked) (c .at-ranks-back .ensures)) (c .loop-j .inv .1) (fell (g .K·Kind·met .lawful) (g .K·Kind .amount) (g .K·Kind·met .amounts) (c .in-Some .j) (record { sum = c .loop-j .sum; by = c .loop-j .by }) _ _ _ (c .in-Some-shorter .ensures tt)),
-)
-
-pub loop-j-again : need.loop-j-again
-loop-j-again g c = (
-  waits-on (c .loop-j .rest) _ _ (c .without-rest-in-Some .ensures) (c .without-rest .result) (c .loop-j .inv .0),
-  best-turn (g .K·Kind·met .lawful) (g .K·Kind .amount) (g .K·Kind·met .amounts) _ _ _ _ (c .without-rest .result) (c .loop-j .rest) _ (c .in-Some .j) _ _ _ _
-      (out (c .args .mine) _ _ (c .without-rest .ensures)) (c .loop-j .inv .0) (c .in-Some .ensures tt .least .1) (c .without-rest-in-Some .ensures)
-      (ap (λ (t : Cell (g .K .Denot)). t .distance) (c .at-ranks-front .ensures)) (ap (λ (t : Cell (g .K .Denot)). t .worked) (c .at-ranks-back .ensures)) (c .loop-j .inv .1) (stayed (g .K·Kind .amount) (c .in-Some .j) (record { sum = c .loop-j .sum; by = c .loop-j .by }) _ _ (c .in-rest-shorter .ensures tt)),
-)
+pub loop-t-holds : need.loop-t-holds
+loop-t-holds g c = best-start (g .K·Kind·met .lawful) (g .K·Kind .amount) (g .K·Kind·met .amounts) _ _ _ _ _ _ (ap (λ (t : Cell (g .K .Denot)). made {K = g .K .Denot} (t .worked)) (c .at-ranks-direct .ensures)) (λ q s. omega (arith, s .1))
 
 pub returns : need.returns
-returns g c = best-done (g .K·Kind·met .lawful) (g .K·Kind .amount) (g .K·Kind·met .amounts) _ _ _ _ (c .args .mine) (c .without-rest .result) (c .loop-j .rest) _ (c .without-rest .ensures) (c .in-rest .ensures tt .least) (c .loop-j .inv .1)
+returns g c = let e : c .loop-t .t ≡ c .args .m = omega arith in rw e at (c .loop-t .inv)
+
+pub loop-t-again : need.loop-t-again
+loop-t-again g c =
+    let o = c .args .order .now in
+    let inv = c .loop-t .inv in
+    let k = c .args .k in
+    let i = c .args .i in
+    let t = c .loop-t .t in
+    let ranks = c .args .ranks .now in
+    let j = getD ranks t 0 in
+    let xs = view o (c .args .cells .now) in
+    let front : c .at-ranks-front .result .distance ≡ xs i j .distance = ap (λ (t : Cell (g .K .Denot)). t .distance) (c .at-ranks-front .ensures) in
+    let back : c .at-ranks-back .result .worked ≡ xs j k .worked = ap (λ (t : Cell (g .K .Denot)). t .worked) (c .at-ranks-back .ensures) in
+    let old : Least (g .K .Denot) = record { sum = c .loop-t .sum; by = c .loop-t .by } in
+    let Next : Least (g .K .Denot) → Type 0 = BestInto (g .K·Kind .arithmetic) (g .K·Kind .amount) (Among ranks (t + 1)) k i xs in
+    elim (c .match-shorter-by .came) [
+      | in-Some w ↦ subst Next (sym (least-is (w .sum-is) (w .by-is)))
+          (best-turn (g .K·Kind·met .lawful) (g .K·Kind .amount) (g .K·Kind·met .amounts) i (xs i k .worked) (λ q. xs i q .distance) (λ q. xs q k .worked) ranks t old _ _ _ (w .in-Some .ensures tt .0) front back inv
+          (fell (g .K·Kind·met .lawful) (g .K·Kind .amount) (g .K·Kind·met .amounts) j old _ _ _ (w .in-Some .ensures tt .1)))
+      | in-rest w ↦ subst Next (sym (least-is (w .sum-is) (w .by-is)))
+          (elim (cases-eq j i) [
+            | inl s ↦ best-skip (g .K·Kind·met .lawful) (g .K·Kind .amount) (g .K·Kind·met .amounts) i (xs i k .worked) (λ q. xs i q .distance) (λ q. xs q k .worked) ranks t old s inv
+            | inr s ↦ best-turn (g .K·Kind·met .lawful) (g .K·Kind .amount) (g .K·Kind·met .amounts) i (xs i k .worked) (λ q. xs i q .distance) (λ q. xs q k .worked) ranks t old old _ _ s front back inv
+                (stayed (g .K·Kind .amount) j old _ _ (w .in-rest .ensures tt s))
+          ])
+    ]
+
+pub at-ranks-front-requires : need.at-ranks-front-requires
+at-ranks-front-requires g c κs = let l = c .pre .members (c .loop-t .t) (c .loop-t-test .taken) in record { fits = c .pre .fits; row = omega arith; column = omega arith }
+
+pub at-ranks-back-requires : need.at-ranks-back-requires
+at-ranks-back-requires g c κs = let l = c .pre .members (c .loop-t .t) (c .loop-t-test .taken) in record { fits = c .pre .fits; row = omega arith; column = omega arith }

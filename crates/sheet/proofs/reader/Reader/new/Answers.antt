@@ -1,3 +1,4 @@
+-- A sheet of no bytes has no version.
 use borrow.Author.Needs.{needs}
 use native.Mathlib.Omega.{arith}
 use mathlib.Core.Path.{_≡_, refl}

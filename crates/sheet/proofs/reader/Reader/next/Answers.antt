@@ -1,3 +1,4 @@
+-- What stands at the offset is told.
 use borrow.Author.Needs.{needs}
 use native.Mathlib.Omega.{arith}
 use mathlib.Core.Path.{refl}
