@@ -1,2 +1,3 @@
 pub mod Bests
 pub mod Summing
+pub mod Settling

@@ -15,11 +15,11 @@ use eliminator::eliminate::lower;
 use eliminator::eliminate::shorter;
 use eliminator::members::list;
 use eliminator::ranks::at_ranks;
-use eliminator::ranks::put_ranks;
 use kinds::kind::Kind;
 use marks::set::Marks;
 use order::event_order::EventOrder;
 use table::cell::Cell;
+use table::grid::place;
 
 // The sum of two bounds by rank j, where that is another rank and the sum less than what is there.
 fn shorter_by<K: Kind>(
@@ -108,15 +108,13 @@ fn settle<K: Kind>(cells: &mut [Cell<K>], order: &EventOrder, r: usize, s: usize
     ensures long { λ _. ⌜ length (now (cells .exit)) ≡ length (now (cells .entry)) ⌝ }
     ensures settles { λ _. ⌜ Settles (now (order .entry) .count) r s least (view (now (order .entry)) (now (cells .entry))) (view (now (order .entry)) (now (cells .exit))) ⌝ }
 {
-    let old = at_ranks(cells, order, r, s);
-    let new = Cell {
-        bound: old.bound,
-        worked: old.worked,
-        via: old.via,
-        distance: least.sum,
-        by: least.by,
-    };
-    put_ranks(cells, order, r, s, new);
+    let p = place(
+        order.events[r] as usize,
+        order.events[s] as usize,
+        order.count,
+    );
+    cells[p].distance = least.sum;
+    cells[p].by = least.by;
 }
 
 // The distances between rank k and a lower rank, both ways.
