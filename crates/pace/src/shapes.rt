@@ -14,15 +14,18 @@ pub enum Shape {
     ScaleFree,
     // a common start, jobs of eight steps released and due from it, and eight machines that take the jobs in turn
     JobShop,
+    // sixteen jobs of eight steps and eight machines, without a common start
+    JobsAlone,
     // all pairs
     Dense,
 }
 
-pub const SHAPES: [Shape; 5] = [
+pub const SHAPES: [Shape; 6] = [
     Shape::Chain,
     Shape::Diamonds,
     Shape::ScaleFree,
     Shape::JobShop,
+    Shape::JobsAlone,
     Shape::Dense,
 ];
 
@@ -32,6 +35,7 @@ pub fn name_of(shape: Shape) -> &'static str {
         Shape::Diamonds => "diamonds",
         Shape::ScaleFree => "scale-free",
         Shape::JobShop => "job-shop",
+        Shape::JobsAlone => "jobs-alone",
         Shape::Dense => "dense",
     }
 }
@@ -154,6 +158,18 @@ impl Draft {
         Ok(())
     }
 
+    fn jobs_alone(&mut self) -> Result<(), AllocError> {
+        for step in 0..EVENTS {
+            if step % 8 != 7 {
+                self.link(step, step.wrapping_add(1))?;
+            }
+        }
+        for machine in 0..8 {
+            self.machine(machine)?;
+        }
+        Ok(())
+    }
+
     fn dense(&mut self) -> Result<(), AllocError> {
         for i in 0..EVENTS {
             for j in 0..i {
@@ -174,6 +190,7 @@ pub fn drafted(heap: Global, shape: Shape) -> Result<Vec<Demand>, AllocError> {
         Shape::Diamonds => draft.diamonds()?,
         Shape::ScaleFree => draft.scale_free()?,
         Shape::JobShop => draft.job_shop()?,
+        Shape::JobsAlone => draft.jobs_alone()?,
         Shape::Dense => draft.dense()?,
     }
     let Draft { demands, state: _ } = draft;
