@@ -7,8 +7,8 @@ use std::cmp::Ordering;
 
 // Exact where it is told, and told for up to 128 bounds of size at most 2^40 each.
 pub fn total<K: Kind>(bounds: &[K]) -> Option<K>
-    ensures exact { IfSome result (λ t. amount t ≡ sum_of arithmetic amount bounds.now) }
-    ensures told { length bounds.now ≤ 128 → AllSmall arithmetic amount bounds.now → is_some result ≡ true }
+    ensures exact { IfSome result (λ t. K.Kind.amount t ≡ sum_of K.Kind.arithmetic K.Kind.amount bounds.now) }
+    ensures told { length bounds.now ≤ 128 → AllSmall K.Kind.arithmetic K.Kind.amount bounds.now → is_some result ≡ true }
 {
     let mut sum = K::zero();
     for b in bounds {
@@ -19,8 +19,8 @@ pub fn total<K: Kind>(bounds: &[K]) -> Option<K>
 
 // Whether some run keeps a loop of bounds: exactly when it does not sum to less than zero.
 pub fn keepable<K: Kind>(bounds: &[K]) -> Option<bool>
-    ensures exact { IfSome result (λ b. b ≡ arithmetic.at_most arithmetic.zero (sum_of arithmetic amount bounds.now)) }
-    ensures told { length bounds.now ≤ 128 → AllSmall arithmetic amount bounds.now → is_some result ≡ true }
+    ensures exact { IfSome result (λ b. b ≡ K.Kind.arithmetic.at_most K.Kind.arithmetic.zero (sum_of K.Kind.arithmetic K.Kind.amount bounds.now)) }
+    ensures told { length bounds.now ≤ 128 → AllSmall K.Kind.arithmetic K.Kind.amount bounds.now → is_some result ≡ true }
 {
     let sum = total(bounds)?;
     match sum.compare(K::zero()) {

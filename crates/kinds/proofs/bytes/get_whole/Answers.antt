@@ -7,5 +7,5 @@ pub returns : goal.returns
 unfolding whole_bytes whole_of
 returns c = record {
   names = search rules;
-  back = read_back _ _ _ c.from-be-bytes.ensures c.copy-from-slice.ensures.after c.requires c.type-inv.from;
+  back = read_back _ _ _ c.from_be_bytes.ensures c.copy_from_slice.ensures.after c.requires c.type_inv.from;
 }

@@ -2,8 +2,8 @@ use Rattle.std.proofs.Common.{◌+◌, ◌^◌, ◌≤◌, fold, refl, ap, ◌�
 use Rattle.kinds.proofs.Totals.{total_next, item_small, size_next}
 use Rattle.kinds.proofs.total.total.Goals as goal
 
-pub returns-in-err-sum : goal.returns-in-err-sum
-returns-in-err-sum g c =
+pub returns-in_err-sum : goal.returns-in_err-sum
+returns-in_err-sum g c =
     let k = g.K.Kind in
     let a = k.arithmetic in
     let l = g.met.K.Kind.lawful in
@@ -14,7 +14,7 @@ returns-in-err-sum g c =
           let h = item small in
           let i = c.loop-b.invariant.1 small in
           let le : a.size (k.amount c.loop-b.sum) + a.size (k.amount c.b-item.result) ≤ 2 ^ 60 = omega arith in
-          absurd (c.in-err-sum.ensures le);
+          absurd (c.in_err-sum.ensures le);
     }
 
 pub loop-b-preserved : goal.loop-b-preserved
@@ -24,7 +24,7 @@ loop-b-preserved g c =
     let l = g.met.K.Kind.lawful in
     let m = g.met.K.Kind in
     let item = item_small a l k.amount c.args.bounds.now c.loop-b.b-index c.b-item.result (2 ^ 40) c.loop-b-test.true (search rules) in
-    let is = c.in-ok-sum.ensures.1 in (
+    let is = c.in_ok-sum.ensures.1 in (
       total_next a l k.amount c.args.bounds.now c.loop-b.b-index c.b-item.result _ _ c.loop-b-test.true (search rules) c.loop-b.invariant.0 is,
       λ small. size_next a l k.amount (k.amount c.loop-b.sum) (k.amount c.b-item.result) _ c.loop-b.b-index (m.amounts c.loop-b.sum) (m.amounts c.b-item.result) is (c.loop-b.invariant.1 small) (item small),
     )

@@ -16,6 +16,6 @@ returns c =
     let n = c.args.self.0 in
     let f : SFits w64 n = search rules in
     record {
-      bytes = (omega arith, c.put-whole.ensures.bytes ∙ ap whole_bytes (to_z-of_z w64 n f) ∙ sym (append-nil _));
+      bytes = (omega arith, c.put_whole.ensures.bytes ∙ ap whole_bytes (to_z-of_z w64 n f) ∙ sym (append-nil _));
       back = one_front 8 (whole_bytes n) n (whole_long n) (whole_back n f);
     }

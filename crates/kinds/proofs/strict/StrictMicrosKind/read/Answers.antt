@@ -6,8 +6,8 @@ use Rattle.kinds.proofs.strict.StrictMicrosKind.read.Goals as goal
 
 pub returns : goal.returns
 returns c =
-    let n = c.get-whole-number.result in
-    let m = c.get-whole-mark.result in
+    let n = c.get_whole-number.result in
+    let m = c.get_whole-mark.result in
     let f : SFits w64 n = search rules in
     let g : SFits w64 m = search rules in
     let e = to_z-of_z w64 n f in
@@ -15,6 +15,6 @@ returns c =
     let s = c.args.from.now in
     let l : length s ≡ 16 = omega arith in (
       l,
-      ap (λ t. t ∷ to_z w64 (of_z w64 m) ∷ []) (e ∙ c.get-whole-number.ensures.names) ∙ ap (λ t. whole_of (take 8 s) ∷ t ∷ []) (h ∙ c.get-whole-mark.ensures.names),
-      joined 8 s (whole_bytes (to_z w64 (of_z w64 n))) (whole_bytes (to_z w64 (of_z w64 m))) l (ap whole_bytes e ∙ c.get-whole-number.ensures.back) (ap whole_bytes h ∙ c.get-whole-mark.ensures.back),
+      ap (λ t. t ∷ to_z w64 (of_z w64 m) ∷ []) (e ∙ c.get_whole-number.ensures.names) ∙ ap (λ t. whole_of (take 8 s) ∷ t ∷ []) (h ∙ c.get_whole-mark.ensures.names),
+      joined 8 s (whole_bytes (to_z w64 (of_z w64 n))) (whole_bytes (to_z w64 (of_z w64 m))) l (ap whole_bytes e ∙ c.get_whole-number.ensures.back) (ap whole_bytes h ∙ c.get_whole-mark.ensures.back),
     )

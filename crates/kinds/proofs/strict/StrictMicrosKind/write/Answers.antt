@@ -20,10 +20,10 @@ returns c =
     let m = c.args.self.mark in
     let f : SFits w64 n = search rules in
     let g : SFits w64 m = search rules in
-    let a : c.put-whole.new.out ≡ whole_bytes n = c.put-whole.ensures.bytes ∙ ap whole_bytes (to_z-of_z w64 n f) in
-    let b : c.put-whole-2.new.out ≡ whole_bytes m = c.put-whole-2.ensures.bytes ∙ ap whole_bytes (to_z-of_z w64 m g) in
+    let a : c.put_whole.new.out ≡ whole_bytes n = c.put_whole.ensures.bytes ∙ ap whole_bytes (to_z-of_z w64 n f) in
+    let b : c.put_whole-2.new.out ≡ whole_bytes m = c.put_whole-2.ensures.bytes ∙ ap whole_bytes (to_z-of_z w64 m g) in
     let l : length c.args.out.now ≡ 16 = omega arith in
     record {
-      bytes = (l, ap (λ t. put_mid 8 8 (t ++ post_of 0 8 c.args.out.now) c.put-whole-2.new.out) a ∙ ap (put_mid 8 8 (whole_bytes n ++ post_of 0 8 c.args.out.now)) b ∙ laid 8 (whole_bytes n) (whole_bytes m) c.args.out.now (whole_long n) (whole_long m) l);
+      bytes = (l, ap (λ t. put_mid 8 8 (t ++ post_of 0 8 c.args.out.now) c.put_whole-2.new.out) a ∙ ap (put_mid 8 8 (whole_bytes n ++ post_of 0 8 c.args.out.now)) b ∙ laid 8 (whole_bytes n) (whole_bytes m) c.args.out.now (whole_long n) (whole_long m) l);
       back = fronts 8 (whole_bytes n) (whole_bytes m) n m (whole_long n) (whole_long m) (whole_back n f) (whole_back m g);
     }
