@@ -1,4 +1,6 @@
 // Elimination and sweep over the amounts of every lawful kind: theory that closing rests on.
+#![tactic(auto)]
+
 ghost use Rattle.kinds.specs.Arithmetic.{Arithmetic, Lawful};
 ghost use Rattle.elimination.specs.Held.{Keeps};
 

@@ -1,4 +1,6 @@
 // The kinds of bound by example, at the edges of their numbers.
+#![tactic(auto)]
+
 #[cfg(test)]
 mod tests {
     use kinds::kind::Kind;

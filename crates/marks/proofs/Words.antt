@@ -1,6 +1,6 @@
 -- The marks of two words.
 use Rattle.std.proofs.Common.{◌≡◌, ℕ, zero, suc, ◌+◌, ◌-◌, ◌*◌, ◌/◌, ◌%◌, ◌^◌, ◌<◌, ◌≤◌, min, max, Bool, true, false, cond, not, ◌&&◌, ◌||◌, eqb, ltb, ◌⊎◌, sym, refl, ap, ◌∙◌, subst, ap₂, inl, inr, ⊎_elim, add-zero, add_assoc, add-suc, pow-suc, arith}
-use mathlib.Core.Bool.{or_false}
+use mathlib.Core.Bool.{or-false}
 use lib.Bits.{bit_and, bit_or}
 use Rattle.std.proofs.lemmas.Bool.{cases_eq, cases_Bool, cond-true, cond-false, cond_both, ltb-true, ltb-false, lt-ltb, le-ltb, eq-eqb, ne_eqb}
 use Rattle.marks.specs.declared.set.Marks.{Marks}
@@ -111,7 +111,7 @@ count_high m (suc k) h =
 pub below_more : (q k : ℕ) → (ltb q k || eqb q k) ≡ ltb q (k + 1)
 below_more q k = ⊎_elim
     (λ e. ap₂ (λ x y. x || y) (le-ltb q k (omega arith)) (eq-eqb q k e) ∙ sym (lt-ltb q (k + 1) (omega arith)))
-    (λ ne. ap (λ y. ltb q k || y) (ne_eqb q k ne) ∙ or_false (ltb q k) ∙ other ne)
+    (λ ne. ap (λ y. ltb q k || y) (ne_eqb q k ne) ∙ or-false (ltb q k) ∙ other ne)
     (cases_eq q k)
   where
     other : (q ≡ k → ⊥) → ltb q k ≡ ltb q (k + 1)

@@ -1,4 +1,6 @@
 // Sets of marks, one mark for each event that a net can have.
+#![tactic(auto)]
+
 pub mod operations;
 pub mod set;
 #[cfg(test)]

@@ -1,7 +1,7 @@
 -- Sets of marks visited from the lowest member up: neighbours joined, and the member with fewest found.
 use Rattle.std.proofs.Common.{◌≡◌, ℕ, zero, suc, ◌+◌, ◌-◌, ◌<◌, ◌≤◌, Bool, true, false, cond, not, ◌&&◌, ◌||◌, eqb, ltb, ◌≢◌, ◌⊎◌, List, [], ◌∷◌, length, get_or, set, Some, None, Option, sym, refl, ap, ◌∙◌, subst, ap₂, inl, inr, ⊎_elim, arith, get_or-set_other, get_or-set_same, MatchOption}
 use mathlib.Core.Path.{fun_ext}
-use mathlib.Core.Bool.{or_false}
+use mathlib.Core.Bool.{or-false}
 use Rattle.std.proofs.lemmas.Bool.{cases_eq, cases_lt, cases_Bool, eq-eqb, ne_eqb, true≢false}
 use Rattle.marks.specs.declared.set.Marks.{Marks}
 use Rattle.marks.specs.Sets.{has, how_many}
@@ -19,7 +19,7 @@ pub visit_starts : (t : List Marks) (mine : Marks) → Visit t t mine mine
 visit_starts t mine = record {
   members = λ p h. h;
   waiting = λ p j h. refl;
-  done = λ p j h. sym (ap (λ b. graph_of t p j || ((b && has mine j) && not (eqb p j))) h ∙ or_false (graph_of t p j));
+  done = λ p j h. sym (ap (λ b. graph_of t p j || ((b && has mine j) && not (eqb p j))) h ∙ or-false (graph_of t p j));
 }
 
 never : {b : Bool} {X : Type 0} → b ≡ true → b ≡ false → X

@@ -1,4 +1,6 @@
 // Orderings of events: how they are made, asked and ranked, and what an elimination in one counts.
+#![tactic(auto)]
+
 pub mod counts;
 pub mod eliminating;
 pub mod event_order;

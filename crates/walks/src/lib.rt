@@ -1,4 +1,6 @@
 // What the computed distances, contradictions, times and windows are, as contracts.
+#![tactic(auto)]
+
 ghost use Rattle.walks.specs.Claims.{ContradictionIsLoop, DistanceIsLeast, DistanceHasRoute, DistancesAreMetric, DistancesAreSmall, ContradictionIsNoSchedule, TimesAreSchedule, WindowsAreExact};
 
 pub fn contradiction_is_a_loop() -> u8

@@ -13,8 +13,8 @@ bounds-near-event c = c.requires c.in-Some.event (c.loop-event.invariant.part c.
 pub with-seen-requires : goal.with-seen-requires
 with-seen-requires c = c.in-Some.ensures.least.0
 
-pub overflow-add-total : goal.overflow-add-total
-overflow-add-total c = let b = c.loop-event.invariant.bounded in let d = c.count-total.ensures.bounded in omega arith
+pub overflow_add-total : goal.overflow_add-total
+overflow_add-total c = let b = c.loop-event.invariant.bounded in let d = c.count-total.ensures.bounded in omega arith
 
 pub loop-event-smaller : goal.loop-event-smaller
 loop-event-smaller c = visit_less c.loop-event.rest c.without-rest.result c.in-Some.event c.in-Some.ensures.least.0 c.in-Some.ensures.least.1 c.without-rest.ensures
@@ -25,6 +25,6 @@ loop-event-preserved c = pairing_turn c.args.near.now c.args.members c.loop-even
 
 pub returns : goal.returns
 returns c = record {
-  value = pairing_ends c.args.near.now c.args.members c.loop-event.rest c.loop-event.seen c.loop-event.total (length c.args.near.now) c.in-default.ensures.least c.requires c.loop-event.invariant;
+  value = pairing_ends c.args.near.now c.args.members c.loop-event.rest c.loop-event.seen c.loop-event.total (length c.args.near.now) c.in_default.ensures.least c.requires c.loop-event.invariant;
   bounded = omega (arith, c.loop-event.invariant.bounded);
 }

@@ -34,5 +34,5 @@ loop-event-preserved c =
 
 pub returns : goal.returns
 returns c =
-    let found = search_ends c.args.near.now c.args.free c.loop-event.rest c.loop-event.best c.loop-event.least (length c.args.near.now) c.requires c.in-default.ensures.least c.loop-event.invariant in
+    let found = search_ends c.args.near.now c.args.free c.loop-event.rest c.loop-event.best c.loop-event.least (length c.args.near.now) c.requires c.in_default.ensures.least c.loop-event.invariant in
     record { value = chosen_best c.args.near.now c.args.free (length c.args.near.now) c.loop-event.best found; chosen = found }

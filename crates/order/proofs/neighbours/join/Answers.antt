@@ -4,8 +4,8 @@ use Rattle.order.specs.Neighbours.{graph_of}
 use Rattle.order.proofs.Visits.{Visit, visit_starts, visit_turn, visit_less}
 use Rattle.order.proofs.neighbours.join.Goals as goal
 
-pub slice-copy-out·union : goal.slice-copy-out·union
-slice-copy-out·union c = omega (arith, c.requires c.in-Some.event (c.loop-event.invariant.members c.in-Some.event c.in-Some.ensures.least.1))
+pub slice_copy_out-union : goal.slice_copy_out-union
+slice_copy_out-union c = omega (arith, c.requires c.in-Some.event (c.loop-event.invariant.members c.in-Some.event c.in-Some.ensures.least.1))
 
 pub bounds-near-event : goal.bounds-near-event
 bounds-near-event c = omega (arith, c.requires c.in-Some.event (c.loop-event.invariant.members c.in-Some.event c.in-Some.ensures.least.1))
@@ -19,4 +19,4 @@ loop-event-preserved c = visit_turn c.args.near.now c.loop-event.near c.args.mem
     (λ j. c.union.ensures j ∙ ap (λ x. graph_of c.loop-event.near c.in-Some.event j || x) (c.without.ensures j)) c.loop-event.invariant
 
 pub returns : goal.returns
-returns c i j = c.loop-event.invariant.done i j (c.in-default.ensures.least i)
+returns c i j = c.loop-event.invariant.done i j (c.in_default.ensures.least i)

@@ -9,13 +9,13 @@ use Rattle.order.proofs.Computed.{computed_whole}
 use Rattle.order.proofs.rank.rank.Goals as goal
 
 pub loop-event-init : goal.loop-event-init
-loop-event-init c = ranking_starts (length c.args.near.now) c.args.near.now c.all-below-free.result _ _ refl refl refl c.all-below-free.ensures
+loop-event-init c = ranking_starts (length c.args.near.now) c.args.near.now c.all_below-free.result _ _ refl refl refl c.all_below-free.ensures
 
 pub fewest-requires : goal.fewest-requires
 fewest-requires c = ranking_within _ _ _ _ _ _ _ c.loop-event.invariant
 
-pub overflow-sub-place : goal.overflow-sub-place
-overflow-sub-place c = ranking_more _ _ _ _ _ _ _ _ c.loop-event.invariant (subst (λ n. Chosen c.loop-event.near c.loop-event.free n c.in-Some.event) c.loop-event.auto.near c.in-Some.ensures.chosen)
+pub overflow_sub-place : goal.overflow_sub-place
+overflow_sub-place c = ranking_more _ _ _ _ _ _ _ _ c.loop-event.invariant (subst (λ n. Chosen c.loop-event.near c.loop-event.free n c.in-Some.event) c.loop-event.auto.near c.in-Some.ensures.chosen)
 
 pub join-requires : goal.join-requires
 join-requires c q h = ranking_within _ _ _ _ _ _ _ c.loop-event.invariant q
@@ -30,19 +30,19 @@ loop-event-preserved c =
     c.requires c.loop-event.invariant (subst (λ n. Chosen c.loop-event.near c.loop-event.free n c.in-Some.event) c.loop-event.auto.near c.in-Some.ensures.chosen)
     c.join.auto.near c.join.ensures c.intersection-lower.ensures c.without-free.ensures
 
-ended : (c : goal.In-default) → c.loop-event.place ≡ 0
-ended c = ranking_ends _ _ _ _ _ _ _ c.loop-event.invariant c.in-default.ensures.chosen
+ended : (c : goal.In_default) → c.loop-event.place ≡ 0
+ended c = ranking_ends _ _ _ _ _ _ _ c.loop-event.invariant c.in_default.ensures.chosen
 
-pub invariant-of-result : goal.invariant-of-result
-invariant-of-result c =
+pub invariant_of-result : goal.invariant_of-result
+invariant_of-result c =
     let p : Permutes (length c.args.near.now) c.loop-event.events c.loop-event.ranks =
     permutes (length c.args.near.now) c.loop-event.events c.loop-event.ranks (λ r l. c.loop-event.invariant.within r (omega (arith, ended c)) l) (λ r l. c.loop-event.invariant.there r (omega (arith, ended c)) l) in
-    (c.requires, (p.events_below, (p.ranks_below, (p.there, (p.back, tt)))))
+    record { fits = c.requires; events_below = p.events_below; ranks_below = p.ranks_below; there = p.there; back = p.back }
 
 pub returns : goal.returns
 returns c =
     let n = length c.args.near.now in
-    let done : c.loop-event.place ≡ 0 = ranking_ends _ _ _ _ _ _ _ c.loop-event.invariant c.in-default.ensures.chosen in
+    let done : c.loop-event.place ≡ 0 = ranking_ends _ _ _ _ _ _ _ c.loop-event.invariant c.in_default.ensures.chosen in
     let r : Ranked n (graph_of c.args.near.now) (stretch c.loop-event.events 0 n) =
     whole n (graph_of c.args.near.now) c.loop-event.events c.loop-event.place done c.loop-event.invariant.ranked in
     record {

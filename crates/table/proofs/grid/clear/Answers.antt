@@ -2,8 +2,8 @@ use Rattle.std.proofs.Common.{◌≡◌, ◌<◌, length, set, ap, ◌∙◌, ar
 use Rattle.table.proofs.Tables.{clear_more}
 use Rattle.table.proofs.grid.clear.Goals as goal
 
-pub offset-bounds-cells-k : goal.offset-bounds-cells-k
-offset-bounds-cells-k g c = let h : c.loop-k.k < length c.args.cells.now = omega arith in search rules
+pub offset_bounds-cells-k : goal.offset_bounds-cells-k
+offset_bounds-cells-k g c = let h : c.loop-k.k < length c.args.cells.now = omega arith in search rules
 
 pub loop-k-preserved : goal.loop-k-preserved
 loop-k-preserved g c =

@@ -12,8 +12,8 @@ longer n h l = ap length (decimal_step n h l) ∙ length_push (decimal (n / 10))
 pub push-requires : goal.push-requires
 push-requires t c = omega (arith, ap length (decimal_digit c.args.number c.if-number-lt10.true))
 
-pub push-number-requires : goal.push-number-requires
-push-number-requires t c =
+pub push_number-requires : goal.push_number-requires
+push_number-requires t c =
     (omega arith, omega (arith, longer c.args.number c.if-number-lt10.false (omega arith)))
 
 pub push-requires-2 : goal.push-requires-2

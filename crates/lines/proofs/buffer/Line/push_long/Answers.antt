@@ -3,8 +3,8 @@ use Rattle.std.proofs.Common.{rules}
 use Rattle.std.proofs.lemmas.Fmt.{length-decimal-le}
 use Rattle.lines.proofs.buffer.Line.push_long.Goals as goal
 
-pub push-number-requires : goal.push-number-requires
-push-number-requires c = search (rules, length-decimal-le 20)
+pub push_number-requires : goal.push_number-requires
+push_number-requires c = search (rules, length-decimal-le 20)
 
 pub returns : goal.returns
 returns c = search (rules, length-decimal-le 20)

@@ -15,6 +15,6 @@ returns c =
     let neg : c.args.number <ℤ pos 0 = omega (arith, ints) in
     let e = minus c.args.number neg in
     let v = ap nat_abs (to_z-of_z w64 c.args.number f) in
-    let a = append_assoc (held c.args.self.now) (45 ∷ []) (decimal c.unsigned-abs-2.result) in
-    let s : signed_decimal c.args.number ≡ 45 ∷ decimal c.unsigned-abs-2.result = cc in
+    let a = append_assoc (held c.args.self.now) (45 ∷ []) (decimal c.unsigned_abs-2.result) in
+    let s : signed_decimal c.args.number ≡ 45 ∷ decimal c.unsigned_abs-2.result = cc in
     record { text = cc; len = omega (arith, ap length s) }

@@ -24,10 +24,10 @@ returns-then-ranks-event c =
     sym (arranged_by c.args.n c.args.list.now (Some Again) c.if-n-gt128.false c.if-list-n.false
     (sound_again c.args.n c.args.list.now c.loop-k.k _ c.loop-k-test.true c.if-event-n.false b.0 b.1 c.loop-k.invariant.sound))
 
-pub invariant-of-result : goal.invariant-of-result
-invariant-of-result c =
+pub invariant_of-result : goal.invariant_of-result
+invariant_of-result c =
     let p : Permutes c.args.n c.loop-k.events c.loop-k.ranks = placed_permutes c.args.n c.loop-k.k c.args.list.now c.loop-k.events c.loop-k.ranks c.loop-k-test.false c.loop-k.invariant in
-    (c.if-n-gt128.false, (p.events_below, (p.ranks_below, (p.there, (p.back, tt)))))
+    record { fits = c.if-n-gt128.false; events_below = p.events_below; ranks_below = p.ranks_below; there = p.there; back = p.back }
 
 pub returns : goal.returns
 returns c =
