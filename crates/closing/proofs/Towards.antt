@@ -61,4 +61,4 @@ module _ {K : Type 0} {A : Arithmetic} {amount : K → List ℤ} (n : ℕ) (xs :
       (u, r, (amounts L).trans u (plus L (nil L) c) c l (le_of L c))
     where
       le_of : (L : Lawful A) (c : Held A) → le A (plus L (nil L) c) c
-      le_of L c = let P : Held A → Type 0 = λ t. le A t c in subst P (sym ((amounts L).unit c)) ((amounts L).refl-le c)
+      le_of L c = let P : Held A → Type 0 = λ t. le A t c in subst P (sym ((amounts L).unit c)) ((amounts L).refl_le c)

@@ -147,7 +147,7 @@ module _ {K : Type 0} {A : Arithmetic} (L : Lawful A) (amount : K → List ℤ) 
             inr (value l.front, value l.back, (v.0, hk, (l.front, l.front_is, refl)), (hk, v.1, (l.back, l.back_is, refl)), same L a _ (v.2.2 ∙ ap amount z ∙ l.adds))
       ];
       keeps = λ i j a hi hj d w. elim (p.done i j hi hj d).either [
-        | inl e ↦ (a, (w.0, w.1, (w.2.0, ap (λ (t : Cell K). t.worked) e ∙ w.2.1, w.2.2)), (amounts L).refl-le a)
+        | inl e ↦ (a, (w.0, w.1, (w.2.0, ap (λ (t : Cell K). t.worked) e ∙ w.2.1, w.2.2)), (amounts L).refl_le a)
         | inr l ↦ (
           value l.sum,
           (w.0, w.1, (l.sum, l.sum_is, refl)),

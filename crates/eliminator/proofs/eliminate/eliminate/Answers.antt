@@ -34,14 +34,14 @@ ranks-preserved g c =
     let e : c.ranks.k ≡ suc (c.ranks.k - 1) = omega arith in
     let i = c.ranks.invariant in
     let lower = c.lower-mine.ensures in
-    let w = whole _ _ _ _ (omega arith) lower i.4 c.take-out.ensures.part in (
+    let w = whole _ _ _ _ (omega arith) lower i.4 c.take_out.ensures.part in (
       c.loop-i.invariant.0,
       omega arith,
-      c.take-out.ensures.long ∙ i.2,
+      c.take_out.ensures.long ∙ i.2,
       λ x y p q. whole_force _ _ _ w x y p q ∙ i.3 x y p q,
-      near_next _ _ _ _ (omega arith) lower i.4 c.take-out.ensures.part _ c.take-out.ensures.joined,
+      near_next _ _ _ _ (omega arith) lower i.4 c.take_out.ensures.part _ c.take_out.ensures.joined,
       λ L r. stage_next L g.K.Kind.amount g.met.K.Kind.amounts _ c.args.order.now.fits _ _ _ _ (omega arith) r (rw e at (i.5 L r))
-          (bears_all g.K.Kind.arithmetic g.K.Kind.amount _ _ _ c.lower-mine.result c.loop-i.rest (view c.args.order.now c.ranks.cells) (omega arith) lower i.4 c.in-default.ensures.least c.loop-i.invariant.2) w,
+          (bears_all g.K.Kind.arithmetic g.K.Kind.amount _ _ _ c.lower-mine.result c.loop-i.rest (view c.args.order.now c.ranks.cells) (omega arith) lower i.4 c.in_default.ensures.least c.loop-i.invariant.2) w,
     )
 
 pub returns-after-ranks : goal.returns-after-ranks

@@ -7,8 +7,8 @@ use Rattle.eliminator.proofs.eliminate.take_out.Goals as goal
 pub loop-i-init : goal.loop-i-init
 loop-i-init g c = (refl, waits_start c.args.mine, part_start c.args.mine _, joined_start c.args.mine _)
 
-pub relax-row-requires : goal.relax-row-requires
-relax-row-requires g c = record {
+pub relax_row-requires : goal.relax_row-requires
+relax_row-requires g c = record {
   fits = omega (arith, c.loop-i.invariant.0, c.requires.fits);
   within = c.requires.within;
   row = c.requires.members c.in-Some.i (c.loop-i.invariant.1 c.in-Some.i c.in-Some.ensures.least.1);
@@ -24,9 +24,9 @@ pub loop-i-preserved : goal.loop-i-preserved
 loop-i-preserved g c =
     let i = c.loop-i.invariant in
     let h = c.in-Some.ensures.least.1 in (
-      c.relax-row.ensures.long ∙ i.0,
+      c.relax_row.ensures.long ∙ i.0,
       waits_on c.loop-i.rest _ _ c.without-rest.ensures c.args.mine i.1,
-      part_turn _ c.args.mine c.loop-i.rest _ _ _ _ _ c.requires.within c.requires.members i.1 h c.without-rest.ensures c.without-others.ensures i.2 (row_all _ _ c.args.mine _ _ _ _ c.list-m.ensures.lists c.without-others.ensures c.relax-row.ensures.part),
+      part_turn _ c.args.mine c.loop-i.rest _ _ _ _ _ c.requires.within c.requires.members i.1 h c.without-rest.ensures c.without-others.ensures i.2 (row_all _ _ c.args.mine _ _ _ _ c.list-m.ensures.lists c.without-others.ensures c.relax_row.ensures.part),
       joined_turn _ c.args.mine c.loop-i.rest _ _ _ _ _ (omega (arith, c.requires.members c.in-Some.i (i.1 c.in-Some.i h))) c.without-rest.ensures c.without-others.ensures c.union.ensures i.3,
     )
 
@@ -35,12 +35,12 @@ returns g c =
     let i = c.loop-i.invariant in
     record {
       long = i.0;
-      part = part_done c.args.mine c.loop-i.rest _ _ c.in-default.ensures.least i.2;
-      joined = joined_done c.args.mine c.loop-i.rest _ _ c.in-default.ensures.least i.3;
+      part = part_done c.args.mine c.loop-i.rest _ _ c.in_default.ensures.least i.2;
+      joined = joined_done c.args.mine c.loop-i.rest _ _ c.in_default.ensures.least i.3;
     }
 
 pub bounds-near-i : goal.bounds-near-i
 bounds-near-i g c = omega (arith, c.requires.members c.in-Some.i (c.loop-i.invariant.1 c.in-Some.i c.in-Some.ensures.least.1))
 
-pub slice-copy-out·union : goal.slice-copy-out·union
-slice-copy-out·union g c = omega (arith, c.requires.members c.in-Some.i (c.loop-i.invariant.1 c.in-Some.i c.in-Some.ensures.least.1))
+pub slice_copy_out-union : goal.slice_copy_out-union
+slice_copy_out-union g c = omega (arith, c.requires.members c.in-Some.i (c.loop-i.invariant.1 c.in-Some.i c.in-Some.ensures.least.1))

@@ -22,7 +22,7 @@ loop-j-preserved c =
     )
 
 pub returns : goal.returns
-returns c = record { long = c.loop-j.invariant.0; few = omega arith; lists = list_done c.args.mine c.loop-j.rest _ _ c.in-default.ensures.least c.loop-j.invariant.3 }
+returns c = record { long = c.loop-j.invariant.0; few = omega arith; lists = list_done c.args.mine c.loop-j.rest _ _ c.in_default.ensures.least c.loop-j.invariant.3 }
 
 pub bounds-ranks-m : goal.bounds-ranks-m
 bounds-ranks-m c =
@@ -30,5 +30,5 @@ bounds-ranks-m c =
     let f = fewer c.loop-j.rest _ _ c.without-rest.ensures c.in-Some.ensures.least.0 c.in-Some.ensures.least.1 in
     omega arith
 
-pub overflow-add-m : goal.overflow-add-m
-overflow-add-m c = let i = c.loop-j.invariant in omega arith
+pub overflow_add-m : goal.overflow_add-m
+overflow_add-m c = let i = c.loop-j.invariant in omega arith

@@ -6,11 +6,11 @@ use Rattle.eliminator.specs.Begun.{begun}
 use Rattle.eliminator.proofs.Beginning.{begun_below, begun_above}
 use Rattle.eliminator.proofs.start.begin.Goals as goal
 
-pub offset-bounds-cells-p : goal.offset-bounds-cells-p
-offset-bounds-cells-p g c = let h : c.loop-p.p < length c.args.cells.now = omega arith in search rules
+pub offset_bounds-cells-p : goal.offset_bounds-cells-p
+offset_bounds-cells-p g c = let h : c.loop-p.p < length c.args.cells.now = omega arith in search rules
 
-pub offset-bounds-cells-p-in-loop-p : goal.offset-bounds-cells-p-in-loop-p
-offset-bounds-cells-p-in-loop-p g c = let h : c.loop-p.p < length c.args.cells.now = omega arith in search rules
+pub offset_bounds-cells-p-in-loop-p : goal.offset_bounds-cells-p-in-loop-p
+offset_bounds-cells-p-in-loop-p g c = let h : c.loop-p.p < length c.args.cells.now = omega arith in search rules
 
 pub loop-p-preserved : goal.loop-p-preserved
 loop-p-preserved g c =
