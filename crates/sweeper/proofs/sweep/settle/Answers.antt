@@ -15,5 +15,5 @@ returns g c = record {
       c.index-cells-p.is;
 }
 
-pub offset-bounds-cells-p : goal.offset-bounds-cells-p
-offset-bounds-cells-p g c = let h : c.place-p.result < length c.args.cells.now = omega (arith, c.place-p.ensures.below, c.requires.fits) in search rules
+pub offset_bounds-cells-p : goal.offset_bounds-cells-p
+offset_bounds-cells-p g c = let h : c.place-p.result < length c.args.cells.now = omega (arith, c.place-p.ensures.below, c.requires.fits) in search rules

@@ -11,8 +11,8 @@ loop-k-init g c = (refl, same_self _ (view c.args.order.now c.args.cells.now), d
 pub loop-i-init : goal.loop-i-init
 loop-i-init g c = (refl, same_self _ (view c.args.order.now c.loop-k.cells), λ us s m d. d)
 
-pub sweep-pair-requires : goal.sweep-pair-requires
-sweep-pair-requires g c = record {
+pub sweep_pair-requires : goal.sweep_pair-requires
+sweep_pair-requires g c = record {
   fits = omega (arith, c.loop-i.invariant.0, c.loop-k.invariant.0, c.requires.fits);
   within = c.loop-k-test.true;
   low = c.loop-i-test.true;
@@ -26,9 +26,9 @@ loop-i-preserved g c =
     let i = c.loop-i.invariant in
     let xs = view o c.loop-k.cells in
     let ys = view o c.loop-i.cells in (
-      c.sweep-pair.ensures.long ∙ i.0,
-      same_more _ xs ys (view o c.sweep-pair.new.cells) i.1 c.sweep-pair.ensures.paired.work,
-      λ us s m d. done_next _ us c.loop-k.k c.loop-i.i c.args.near.now c.lower-mine.result ys _ c.loop-i-test.true c.loop-k-test.true c.lower-mine.ensures m (same_more _ us xs ys s i.1) (paired_as _ _ _ _ c.lower-mine.result _ _ _ c.list-m.ensures.lists c.sweep-pair.ensures.paired) (i.2 us s m d),
+      c.sweep_pair.ensures.long ∙ i.0,
+      same_more _ xs ys (view o c.sweep_pair.new.cells) i.1 c.sweep_pair.ensures.paired.work,
+      λ us s m d. done_next _ us c.loop-k.k c.loop-i.i c.args.near.now c.lower-mine.result ys _ c.loop-i-test.true c.loop-k-test.true c.lower-mine.ensures m (same_more _ us xs ys s i.1) (paired_as _ _ _ _ c.lower-mine.result _ _ _ c.list-m.ensures.lists c.sweep_pair.ensures.paired) (i.2 us s m d),
     )
 
 pub loop-k-preserved : goal.loop-k-preserved

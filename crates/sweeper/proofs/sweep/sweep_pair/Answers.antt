@@ -6,5 +6,5 @@ use Rattle.sweeper.proofs.sweep.sweep_pair.Goals as goal
 pub returns : goal.returns
 returns g c = record {
   long = c.settle-2.ensures.long ∙ c.settle.ensures.long;
-  paired = paired _ _ _ _ _ _ _ _ _ c.requires.low c.requires.within c.best-into-into.ensures c.best-out-out.ensures c.settle.ensures.settles c.settle-2.ensures.settles;
+  paired = paired _ _ _ _ _ _ _ _ _ c.requires.low c.requires.within c.best_into-into.ensures c.best_out-out.ensures c.settle.ensures.settles c.settle-2.ensures.settles;
 }
