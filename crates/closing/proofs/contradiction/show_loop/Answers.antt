@@ -38,4 +38,4 @@ loop-v-preserved g c =
 pub returns : goal.returns
 returns g c =
     let i = c.loop-v.invariant in
-    record { held = i.2; names = i.3; shows = part_done _ _ _ _ c.requires.lower c.requires.within _ _ i.0 i.1 i.3 c.in-default.ensures i.4 }
+    record { held = i.2; names = i.3; shows = part_done _ _ _ _ c.requires.lower c.requires.within _ _ i.0 i.1 i.3 c.in_default.ensures i.4 }

@@ -3,20 +3,20 @@ use Rattle.std.proofs.Common.{arith, rules}
 use Rattle.closing.proofs.Tying.{few_names, walk_told}
 use Rattle.closing.proofs.walk.walk_cells.Goals as goal
 
-pub walk-ranks-len-requires : goal.walk-ranks-len-requires
-walk-ranks-len-requires g c =
+pub walk_ranks-len-requires : goal.walk_ranks-len-requires
+walk_ranks-len-requires g c =
     let o = c.args.order.now in
     record { fits = c.requires.fits; row = o.ranks_below c.args.i c.requires.row; column = o.ranks_below c.args.j c.requires.column; room = o.fits }
 
 pub tell-requires : goal.tell-requires
 tell-requires g c =
-    let w = c.walk-ranks-len in
+    let w = c.walk_ranks-len in
     let m = few_names c.args.order.now.count w.result w.new.out w.ensures.held w.ensures.names in
     record { held = w.ensures.held; room = omega (arith, m, c.requires.room); names = w.ensures.names }
 
 pub returns : goal.returns
 returns g c =
-    let w = c.walk-ranks-len in
+    let w = c.walk_ranks-len in
     let o = c.args.order.now in
     record {
       few = few_names o.count w.result w.new.out w.ensures.held w.ensures.names;
