@@ -1,4 +1,6 @@
 // The net: events with bounds between them and an ordering, over a table that is lent to it.
+#![tactic(auto)]
+
 pub mod earliest;
 pub mod lent;
 pub mod links;

@@ -8,6 +8,6 @@ returns g c =
     let a : length c.gather.new.near ≡ c.args.order.now.count = c.gather.auto.near ∙ simp length-take (omega arith) in
     let b = sym c.gather.auto.near ∙ a in
     record {
-      value = counts_moved c.gather.new.near _ _ _ _ _ c.gather.ensures (ap (λ m. neighbours (bounds g.K.Kind.amount m c.args.cells.now)) b) c.count-elimination.ensures.value;
-      bounded = c.count-elimination.ensures.bounded;
+      value = counts_moved c.gather.new.near _ _ _ _ _ c.gather.ensures (ap (λ m. neighbours (bounds g.K.Kind.amount m c.args.cells.now)) b) c.count_elimination.ensures.value;
+      bounded = c.count_elimination.ensures.bounded;
     }

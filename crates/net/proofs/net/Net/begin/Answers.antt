@@ -11,10 +11,10 @@ returns-then-n-lt1 g c = record { outcome = begin_range _ _ _ c.then-n-lt1.eithe
 pub returns-then-n-room : goal.returns-then-n-room
 returns-then-n-room g c = record { outcome = begin_cells _ _ _ (omega arith) (omega arith) (omega arith); untouched = refl; kept = refl; sound = λ s. s; faithful = λ k. k }
 
-pub invariant-of-self : goal.invariant-of-self
-invariant-of-self g c =
+pub invariant_of-self : goal.invariant_of-self
+invariant_of-self g c =
     let kept = ap length c.clear.ensures ∙ clear_length (c.args.n * c.args.n) _ in
-    (omega arith, (omega (arith, kept), (first_count c.identity-self.result c.args.n c.identity-self.ensures, tt)))
+    record { few = omega arith; fits = omega (arith, kept); ordered = first_count c.identity-self.result c.args.n c.identity-self.ensures }
 
 pub returns : goal.returns
 returns g c =

@@ -5,8 +5,8 @@ use Rattle.net.proofs.Closings.{kept_open}
 use Rattle.net.proofs.Soundness.{sound_made}
 use Rattle.net.proofs.net.Net.make.Goals as goal
 
-pub invariant-of-result : goal.invariant-of-result
-invariant-of-result g c = (omega arith, (omega arith, (first_count c.identity-order.result 0 c.identity-order.ensures, tt)))
+pub invariant_of-result : goal.invariant_of-result
+invariant_of-result g c = record { few = omega arith; fits = omega arith; ordered = first_count c.identity-order.result 0 c.identity-order.ensures }
 
 pub returns : goal.returns
 returns g c =

@@ -5,17 +5,17 @@ use Rattle.net.proofs.Closings.{kept_open}
 use Rattle.net.proofs.Soundness.{sound_required, sound_after}
 use Rattle.net.proofs.net.Net.require.Goals as goal
 
-pub returns-in-err-check-pair : goal.returns-in-err-check-pair
-returns-in-err-check-pair g c =
-    let p = err_from_is_err_and c.from-residual.result c.from-residual.ensures.1 in
-    rw (p.1, p.2) (record { outcome = require_pair _ _ _ _ _ _ c.in-err-check-pair.ensures.value; untouched = refl; kept = refl; sound = λ s. s; faithful = λ k. k })
+pub returns-in_err-check_pair : goal.returns-in_err-check_pair
+returns-in_err-check_pair g c =
+    let p = err_from_is_err_and c.from_residual.result c.from_residual.ensures.1 in
+    rw (p.1, p.2) (record { outcome = require_pair _ _ _ _ _ _ c.in_err-check_pair.ensures.value; untouched = refl; kept = refl; sound = λ s. s; faithful = λ k. k })
 
-pub returns-then-size-gt-MOST-SIZE : goal.returns-then-size-gt-MOST-SIZE
-returns-then-size-gt-MOST-SIZE g c = let pair = c.in-ok-check-pair.ensures.good in record { outcome = require_large _ _ _ _ _ pair.0 pair.1 pair.2 (omega arith); untouched = refl; kept = refl; sound = λ s. s; faithful = λ k. k }
+pub returns-then-size-gt-MOST_SIZE : goal.returns-then-size-gt-MOST_SIZE
+returns-then-size-gt-MOST_SIZE g c = let pair = c.in_ok-check_pair.ensures.good in record { outcome = require_large _ _ _ _ _ pair.0 pair.1 pair.2 (omega arith); untouched = refl; kept = refl; sound = λ s. s; faithful = λ k. k }
 
 pub returns : goal.returns
 returns g c =
-    let pair = c.in-ok-check-pair.ensures.good in
+    let pair = c.in_ok-check_pair.ensures.good in
     let done = require_done g.K.Kind.arithmetic g.K.Kind.amount c.args.i c.args.j c.args.self.now.events _ _ _ _ _ c.at-cell.result _ c.lesser.result pair.0 pair.1 (omega arith) pair.2 (omega arith) c.at-cell.ensures refl c.lesser.ensures c.put.ensures in
     record {
       outcome = done;
