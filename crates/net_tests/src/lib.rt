@@ -1,4 +1,6 @@
 // The net by example, at the edges of what it takes.
+#![tactic(auto)]
+
 #[cfg(test)]
 mod tests {
     use kinds::micros::Micros;

@@ -1,4 +1,6 @@
 // The timing sheet: its bytes read into a net, and a net written as bytes.
+#![tactic(auto)]
+
 pub mod fault;
 pub mod form;
 pub mod outline;

@@ -21,14 +21,14 @@ returns-in-1 g c =
     let K = coding g.K.Kind.arithmetic g.K.Kind.number g.K.Kind.width g.K.Kind.encoded g.K.Kind.decoded in
     let b = between_to_end c.args.body.now 1 (length c.args.body.now) (omega arith) in
     let e = by_events K c.args.body.now _ (search rules) b c.in-1.is in
-    record { says = c.events-of.ensures.says ∙ e; codes = moved K e c.events-of.ensures.codes }
+    record { says = c.events_of.ensures.says ∙ e; codes = moved K e c.events_of.ensures.codes }
 
 pub returns-in-2 : goal.returns-in-2
 returns-in-2 g c =
     let K = coding g.K.Kind.arithmetic g.K.Kind.number g.K.Kind.width g.K.Kind.encoded g.K.Kind.decoded in
     let b = between_to_end c.args.body.now 1 (length c.args.body.now) (omega arith) in
     let e = by_bound K c.args.body.now _ (search rules) b c.in-2.is in
-    record { says = c.bound-of.ensures.says ∙ e; codes = moved K e c.bound-of.ensures.codes }
+    record { says = c.bound_of.ensures.says ∙ e; codes = moved K e c.bound_of.ensures.codes }
 
 pub returns-in-3 : goal.returns-in-3
 returns-in-3 g c =
@@ -37,8 +37,8 @@ returns-in-3 g c =
     let e = by_ordering K c.args.body.now _ (search rules) b c.in-3.is in
     record { says = e; codes = moved K e tt }
 
-pub returns-in-default : goal.returns-in-default
-returns-in-default g c =
+pub returns-in_default : goal.returns-in_default
+returns-in_default g c =
     let K = coding g.K.Kind.arithmetic g.K.Kind.number g.K.Kind.width g.K.Kind.encoded g.K.Kind.decoded in
     let e = by_other K c.args.body.now (search rules) (omega arith) (omega arith) (omega arith) in
     record { says = e; codes = moved K e tt }

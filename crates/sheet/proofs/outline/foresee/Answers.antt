@@ -7,23 +7,23 @@ use Rattle.sheet.specs.Told.{asking}
 use Rattle.sheet.proofs.Foreseeing.{seen_as, seen_call, begin_kept, begin_done, require_told, arrange_told}
 use Rattle.sheet.proofs.outline.foresee.Goals as goal
 
-pub returns-in-err-may-begin : goal.returns-in-err-may-begin
-returns-in-err-may-begin g c =
-    let p = err_from_is_err_and c.from-residual.result c.from-residual.ensures.1 in
-    let why = c.in-err-may-begin.field-0.0 in
-    let told : answered c.from-residual.result ≡ Err (reason why) = ap answered p.1 ∙ ap (λ y. Err (reason y)) p.2 in
+pub returns-in_err-may_begin-in-Begin : goal.returns-in_err-may_begin-in-Begin
+returns-in_err-may_begin-in-Begin g c =
+    let p = err_from_is_err_and c.from_residual.result c.from_residual.ensures.1 in
+    let why = c.in_err-may_begin-in-Begin.field-0.0 in
+    let told : answered c.from_residual.result ≡ Err (reason why) = ap answered p.1 ∙ ap (λ y. Err (reason y)) p.2 in
     let call = ap (asking g.K.Kind.amount) c.in-Begin.is ∙ ap begin (sym c.from-n.ensures) in
     record {
       same = refl;
-      foreseen = λ s e. seen_call g.K.Kind.arithmetic c.args.outline.now.cells s (asking g.K.Kind.amount c.args.request) (begin c.from-n.result) call (seen_as (begin_kept c.args.outline.now.cells c.from-n.result s (reason why) c.args.outline.now.events c.in-err-may-begin.ensures e) (sym told) refl);
+      foreseen = λ s e. seen_call g.K.Kind.arithmetic c.args.outline.now.cells s (asking g.K.Kind.amount c.args.request) (begin c.from-n.result) call (seen_as (begin_kept c.args.outline.now.cells c.from-n.result s (reason why) c.args.outline.now.events c.in_err-may_begin-in-Begin.ensures e) (sym told) refl);
     }
 
-pub returns-in-ok-may-begin : goal.returns-in-ok-may-begin
-returns-in-ok-may-begin g c =
+pub returns-in_ok-may_begin-in-Begin : goal.returns-in_ok-may_begin-in-Begin
+returns-in_ok-may_begin-in-Begin g c =
     let call = ap (asking g.K.Kind.amount) c.in-Begin.is ∙ ap begin (sym c.from-n.ensures) in
     record {
       same = refl;
-      foreseen = λ s e. seen_call g.K.Kind.arithmetic c.args.outline.now.cells s (asking g.K.Kind.amount c.args.request) (begin c.from-n.result) call (begin_done c.args.outline.now.cells c.from-n.result s c.in-ok-may-begin.ensures);
+      foreseen = λ s e. seen_call g.K.Kind.arithmetic c.args.outline.now.cells s (asking g.K.Kind.amount c.args.request) (begin c.from-n.result) call (begin_done c.args.outline.now.cells c.from-n.result s c.in_ok-may_begin-in-Begin.ensures);
     }
 
 pub returns-in-Require : goal.returns-in-Require
@@ -32,7 +32,7 @@ returns-in-Require g c =
     let call = ap (asking g.K.Kind.amount) c.in-Require.is ∙ ap (λ i. require i c.in-Require.to w) (sym c.from.ensures) ∙ ap (λ j. require c.from.result j w) (sym c.from-in-Require.ensures) in
     record {
       same = refl;
-      foreseen = λ s e. seen_call g.K.Kind.arithmetic c.args.outline.now.cells s (asking g.K.Kind.amount c.args.request) (require c.from.result c.from-in-Require.result w) call (require_told g.K.Kind.arithmetic c.from.result c.from-in-Require.result w s c.args.outline.now.events (answered c.may-require.result) c.may-require.ensures e);
+      foreseen = λ s e. seen_call g.K.Kind.arithmetic c.args.outline.now.cells s (asking g.K.Kind.amount c.args.request) (require c.from.result c.from-in-Require.result w) call (require_told g.K.Kind.arithmetic c.from.result c.from-in-Require.result w s c.args.outline.now.events (answered c.may_require.result) c.may_require.ensures e);
     }
 
 pub returns-in-Arrange : goal.returns-in-Arrange
@@ -40,5 +40,5 @@ returns-in-Arrange g c =
     let list = c.in-Arrange.events.now in
     record {
       same = refl;
-      foreseen = λ s e. seen_call g.K.Kind.arithmetic c.args.outline.now.cells s (asking g.K.Kind.amount c.args.request) (arrange list) (ap (asking g.K.Kind.amount) c.in-Arrange.is) (arrange_told list s c.args.outline.now.events (answered c.may-arrange.result) c.may-arrange.ensures e);
+      foreseen = λ s e. seen_call g.K.Kind.arithmetic c.args.outline.now.cells s (asking g.K.Kind.amount c.args.request) (arrange list) (ap (asking g.K.Kind.amount) c.in-Arrange.is) (arrange_told list s c.args.outline.now.events (answered c.may_arrange.result) c.may_arrange.ensures e);
     }

@@ -9,6 +9,6 @@ pub returns : goal.returns
 returns g c =
     let K = coding g.K.Kind.arithmetic g.K.Kind.number g.K.Kind.width g.K.Kind.encoded g.K.Kind.decoded in
     record {
-      same = c.in-ok-foresee.ensures.same;
-      passed = λ s e. passes g.K.Kind.arithmetic c.args.outline.now.cells c.args.found.offset c.foresee.new.outline.events (asking g.K.Kind.amount c.in-ok-request.request) (entry c.args.found.offset (asked K c.args.found.offset c.args.found.body.now)) s c.in-ok-request.ensures.asks (c.in-ok-foresee.ensures.foreseen s e);
+      same = c.in_ok-foresee.ensures.same;
+      passed = λ s e. passes g.K.Kind.arithmetic c.args.outline.now.cells c.args.found.offset c.foresee.new.outline.events (asking g.K.Kind.amount c.in_ok-request.request) (entry c.args.found.offset (asked K c.args.found.offset c.args.found.body.now)) s c.in_ok-request.ensures.asks (c.in_ok-foresee.ensures.foreseen s e);
     }

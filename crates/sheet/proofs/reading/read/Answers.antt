@@ -30,7 +30,7 @@ returns g c =
     let s = state g.K.Kind.amount c.args.net.now in
     let t = state g.K.Kind.amount c.apply.new.net in
     let es = entries_of K c.args.sheet.now in
-    let h = c.in-ok-check.ensures s (sym c.events.ensures) in
+    let h = c.in_ok-check.ensures s (sym c.events.ensures) in
     let e = ap (λ m. run g.K.Kind.arithmetic m es s) (sym c.room.ensures) ∙ h.1 in
     record {
       reading = concludes (run g.K.Kind.arithmetic (room c.args.net.now) es s) c.apply.result s t h.0 e c.apply.ensures.ran;

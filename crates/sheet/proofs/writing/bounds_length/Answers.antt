@@ -11,5 +11,5 @@ loop-from-init g c = (sym (all_length_none (coding g.K.Kind.arithmetic g.K.Kind.
 pub loop-from-preserved : goal.loop-from-preserved
 loop-from-preserved g c =
     let m = all_length_more (coding g.K.Kind.arithmetic g.K.Kind.number g.K.Kind.width g.K.Kind.encoded g.K.Kind.decoded) (state g.K.Kind.amount c.args.net.now).bounds (state g.K.Kind.amount c.args.net.now).events c.loop-from.from in
-    let v = c.row-length-length.ensures.value in
+    let v = c.row_length-length.ensures.value in
     (omega arith, omega arith)

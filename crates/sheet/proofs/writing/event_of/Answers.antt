@@ -3,8 +3,8 @@ use Rattle.std.proofs.Common.{◌≡◌, ℕ, ◌<◌, sym, subst, arith}
 use Rattle.sheet.proofs.OrderWritten.{event_there, event_missing}
 use Rattle.sheet.proofs.writing.event_of.Goals as goal
 
-pub overflow-cast-result : goal.overflow-cast-result
-overflow-cast-result g c =
+pub overflow_cast-result : goal.overflow_cast-result
+overflow_cast-result g c =
     let h = event_there c.args.net.now.order c.args.rank c.in-Some.event (subst (λ n. c.args.rank < n) (sym c.args.net.now.ordered) c.requires) c.in-Some.ensures in
     let k = h.1 in
     let f = c.args.net.now.few in

@@ -11,5 +11,5 @@ loop-to-init g c = (sym (row_length_none (coding g.K.Kind.arithmetic g.K.Kind.nu
 pub loop-to-preserved : goal.loop-to-preserved
 loop-to-preserved g c =
     let m = row_length_more (coding g.K.Kind.arithmetic g.K.Kind.number g.K.Kind.width g.K.Kind.encoded g.K.Kind.decoded) (state g.K.Kind.amount c.args.net.now).bounds c.args.from c.loop-to.to in
-    let v = c.pair-length-length.ensures.value in
+    let v = c.pair_length-length.ensures.value in
     (omega arith, omega arith)

@@ -16,15 +16,15 @@ positive n h = omega arith
 pub returns-then-place-length : goal.returns-then-place-length
 returns-then-place-length g c =
     let o = events_count c.args.net.now.order ∙ c.args.net.now.ordered in
-    let v = c.bounds-length.ensures.value in
+    let v = c.bounds_length.ensures.value in
     let n = c.events-n.ensures in
     let t = c.if-place-length.true in
     record { writing = write_short (coding g.K.Kind.arithmetic g.K.Kind.number g.K.Kind.width g.K.Kind.encoded g.K.Kind.decoded) (state g.K.Kind.amount c.args.net.now) c.args.place.now (λ e. c.if-n-eq0.false (n ∙ e)) (omega arith); back = tt }
 
-pub put-sheet-requires : goal.put-sheet-requires
-put-sheet-requires g c =
+pub put_sheet-requires : goal.put_sheet-requires
+put_sheet-requires g c =
     let o = events_count c.args.net.now.order ∙ c.args.net.now.ordered in
-    let v = c.bounds-length.ensures.value in
+    let v = c.bounds_length.ensures.value in
     let n = c.events-n.ensures in
     let t = c.if-place-length.false in
     record { fits = omega arith }
@@ -32,7 +32,7 @@ put-sheet-requires g c =
 pub returns : goal.returns
 returns g c =
     let o = events_count c.args.net.now.order ∙ c.args.net.now.ordered in
-    let v = c.bounds-length.ensures.value in
+    let v = c.bounds_length.ensures.value in
     let n = c.events-n.ensures in
     let t = c.if-place-length.false in
     let S = state g.K.Kind.amount c.args.net.now in
@@ -40,6 +40,6 @@ returns g c =
     let arranges = subst (λ m. arranged m (events_of c.args.net.now.order) ≡ Ok (events_of c.args.net.now.order)) c.args.net.now.ordered (arranged_itself c.args.net.now.order) in
     let length = sheet_length (coding g.K.Kind.arithmetic g.K.Kind.number g.K.Kind.width g.K.Kind.encoded g.K.Kind.decoded) S in
     record {
-      writing = write_done (coding g.K.Kind.arithmetic g.K.Kind.number g.K.Kind.width g.K.Kind.encoded g.K.Kind.decoded) (state g.K.Kind.amount c.args.net.now) c.args.place.now c.put-sheet.new.out _ (λ e. c.if-n-eq0.false (n ∙ e)) (omega arith) (omega arith) c.put-sheet.ensures.bytes;
-      back = restores_front (coding g.K.Kind.arithmetic g.K.Kind.number g.K.Kind.width g.K.Kind.encoded g.K.Kind.decoded) S _ c.put-sheet.new.out _ c.put-sheet.ensures.bytes (c.put-sheet.ensures.long ∙ omega arith) (restores (coding g.K.Kind.arithmetic g.K.Kind.number g.K.Kind.width g.K.Kind.encoded g.K.Kind.decoded) S c.put-sheet.ensures.codes some c.args.net.now.few arranges);
+      writing = write_done (coding g.K.Kind.arithmetic g.K.Kind.number g.K.Kind.width g.K.Kind.encoded g.K.Kind.decoded) (state g.K.Kind.amount c.args.net.now) c.args.place.now c.put_sheet.new.out _ (λ e. c.if-n-eq0.false (n ∙ e)) (omega arith) (omega arith) c.put_sheet.ensures.bytes;
+      back = restores_front (coding g.K.Kind.arithmetic g.K.Kind.number g.K.Kind.width g.K.Kind.encoded g.K.Kind.decoded) S _ c.put_sheet.new.out _ c.put_sheet.ensures.bytes (c.put_sheet.ensures.long ∙ omega arith) (restores (coding g.K.Kind.arithmetic g.K.Kind.number g.K.Kind.width g.K.Kind.encoded g.K.Kind.decoded) S c.put_sheet.ensures.codes some c.args.net.now.few arranges);
     }
