@@ -1,4 +1,6 @@
 // The timing sheet by example, byte by byte.
+#![tactic(auto)]
+
 #[cfg(test)]
 mod tests {
     use kinds::kind::Kind;

@@ -17,7 +17,7 @@ returns-in-Begin g c = record {
   kept = c.begin.ensures.kept;
   faithful = c.begin.ensures.faithful;
   written = (refl, λ calm. refl);
-  takes = λ past st. outcome_takes _ (begin _) _ _ _ _ past (ap (action g.K.Kind.amount _) c.in-Begin.is) c.refusal-number.ensures c.begin.ensures.outcome (begins g.met.K.Kind.lawful (room c.args.net.now) _ past _ st);
+  takes = λ past st. outcome_takes _ (begin _) _ _ _ _ past (ap (action g.K.Kind.amount _) c.in-Begin.is) c.refusal_number.ensures c.begin.ensures.outcome (begins g.met.K.Kind.lawful (room c.args.net.now) _ past _ st);
 }
 
 pub returns-in-Read : goal.returns-in-Read
@@ -25,7 +25,7 @@ returns-in-Read g c = record {
   kept = c.read.ensures.kept;
   faithful = c.read.ensures.faithful;
   written = (refl, λ calm. refl);
-  takes = λ past st. reads_takes (coding g.K.Kind.arithmetic g.K.Kind.number g.K.Kind.width g.K.Kind.encoded g.K.Kind.decoded) g.met.K.Kind.lawful (room c.args.net.now) _ _ _ past _ _ c.read.result (ap (action g.K.Kind.amount _) c.in-Read.is) c.fault-number.ensures st c.read.ensures.reading c.read.ensures.amounts;
+  takes = λ past st. reads_takes (coding g.K.Kind.arithmetic g.K.Kind.number g.K.Kind.width g.K.Kind.encoded g.K.Kind.decoded) g.met.K.Kind.lawful (room c.args.net.now) _ _ _ past _ _ c.read.result (ap (action g.K.Kind.amount _) c.in-Read.is) c.fault_number.ensures st c.read.ensures.reading c.read.ensures.amounts;
 }
 
 pub returns-in-Require : goal.returns-in-Require
@@ -33,7 +33,7 @@ returns-in-Require g c = record {
   kept = c.require.ensures.kept;
   faithful = c.require.ensures.faithful;
   written = (refl, λ calm. refl);
-  takes = λ past st. outcome_takes _ (require _ _ _) _ _ _ _ past (ap (action g.K.Kind.amount _) c.in-Require.is) c.refusal-number-in-Require.ensures c.require.ensures.outcome (requires g.met.K.Kind.lawful (room c.args.net.now) _ _ _ (g.met.K.Kind.amounts _) past _ st);
+  takes = λ past st. outcome_takes _ (require _ _ _) _ _ _ _ past (ap (action g.K.Kind.amount _) c.in-Require.is) c.refusal_number-in-Require.ensures c.require.ensures.outcome (requires g.met.K.Kind.lawful (room c.args.net.now) _ _ _ (g.met.K.Kind.amounts _) past _ st);
 }
 
 pub returns-in-Withdraw : goal.returns-in-Withdraw
@@ -41,7 +41,7 @@ returns-in-Withdraw g c = record {
   kept = c.withdraw.ensures.kept;
   faithful = c.withdraw.ensures.faithful;
   written = (refl, λ calm. refl);
-  takes = λ past st. outcome_takes _ (withdraw _ _) _ _ _ _ past (ap (action g.K.Kind.amount _) c.in-Withdraw.is) c.refusal-number-in-Withdraw.ensures c.withdraw.ensures.outcome (withdraws g.met.K.Kind.lawful (room c.args.net.now) _ _ past _ st);
+  takes = λ past st. outcome_takes _ (withdraw _ _) _ _ _ _ past (ap (action g.K.Kind.amount _) c.in-Withdraw.is) c.refusal_number-in-Withdraw.ensures c.withdraw.ensures.outcome (withdraws g.met.K.Kind.lawful (room c.args.net.now) _ _ past _ st);
 }
 
 pub returns-in-Arrange : goal.returns-in-Arrange
@@ -49,7 +49,7 @@ returns-in-Arrange g c = record {
   kept = c.arrange.ensures.kept;
   faithful = c.arrange.ensures.faithful;
   written = (refl, λ calm. refl);
-  takes = λ past st. outcome_takes _ (arrange _) _ _ _ _ past (ap (action g.K.Kind.amount _) c.in-Arrange.is) c.refusal-number-in-Arrange.ensures c.arrange.ensures.outcome (arranges g.met.K.Kind.lawful (room c.args.net.now) _ past _ st);
+  takes = λ past st. outcome_takes _ (arrange _) _ _ _ _ past (ap (action g.K.Kind.amount _) c.in-Arrange.is) c.refusal_number-in-Arrange.ensures c.arrange.ensures.outcome (arranges g.met.K.Kind.lawful (room c.args.net.now) _ past _ st);
 }
 
 pub returns-in-Rank : goal.returns-in-Rank
@@ -64,14 +64,14 @@ pub returns-in-Close : goal.returns-in-Close
 returns-in-Close g c = record {
   kept = c.close.ensures.kept;
   faithful = c.close.ensures.faithful;
-  written = front_written c.refusal-number-in-Close.result c.min-bytes.result c.args.place.now c.close.new.place c.close.auto.place
-      (subst (λ (a : Answer). Written a (take c.min-bytes.result c.args.place.now) c.close.new.place) (sym (c.refusal-number-in-Close.ensures ∙ ap ended c.accepted.ensures))
+  written = front_written c.refusal_number-in-Close.result c.min-bytes.result c.args.place.now c.close.new.place c.close.auto.place
+      (subst (λ (a : Answer). Written a (take c.min-bytes.result c.args.place.now) c.close.new.place) (sym (c.refusal_number-in-Close.ensures ∙ ap ended c.accepted.ensures))
       (close_written _ _ _ c.close.result c.args.net.now.few c.close.ensures.rest));
   takes = λ past st.
       let sound = st.sound in
       close_takes g.met.K.Kind.lawful g.met.K.Kind.inverse _ c.close.new.place (answered c.accepted.result) _ _ _ past
       (ap (action g.K.Kind.amount _) c.in-Close.is ∙ ap (λ m. does (close m)) (front_of _ _ _ _ c.min-bytes.ensures c.close.auto.place))
-      c.refusal-number-in-Close.ensures st
+      c.refusal_number-in-Close.ensures st
       (subst (Closes g.K.Kind.arithmetic (state g.K.Kind.amount c.args.net.now) (state g.K.Kind.amount c.close.new.self) c.close.new.place) (sym c.accepted.ensures)
       (closes_done _ _ _ _ _ (closes_of g.K.Kind.arithmetic _ _ _ _ c.close.result c.close.auto.place (c.close.ensures.outcome sound) (c.close.ensures.shows sound) c.close.ensures.rest)));
 }

@@ -12,7 +12,7 @@ unreachable-requires c =
     let room : s.events ≤ length c.args.place.now = omega (arith, c.args.net.now.few) in
     let r = refused (length c.args.place.now) s (state_of c.close.new.self) (reason c.in-Err.why).number room (c.in-Err.ensures.outcome c.requires.kept.sound) in
     let m = by_sixteen c.in-Err.why r.1 in
-    c.in-default.not-Contradiction m.0 m.1
+    c.in_default.not-Contradiction m.0 m.1
 
 pub returns-in-Ok : goal.returns-in-Ok
 returns-in-Ok c =

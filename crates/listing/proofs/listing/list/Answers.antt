@@ -12,8 +12,8 @@ use Rattle.listing.proofs.listing.list.Goals as goal
 pub returns-in-Ok : goal.returns-in-Ok
 returns-in-Ok c =
     let g = c.in-Ok.ensures in
-    let front = line_stands _ (counts_line c.in-Ok.counts) c.args.place.now c.write-counts.new.place c.write-counts.result c.unwrap-at.result c.write-counts.ensures.answer c.write-counts.ensures.place c.unwrap-at.ensures (omega (arith, c.write-counts.ensures.short)) in
-    closed_listed (state_of c.args.net.now) (state_of c.close.new.net) c.in-Ok.counts c.args.place.now c.write-counts.new.place c.write-windows.new.place c.unwrap-at.result c.write-windows.result g.answer.0 g.answer.1 g.events g.bounds front c.write-windows.ensures.place (omega (arith, c.write-windows.ensures.short, front.ends, c.write-counts.ensures.short))
+    let front = line_stands _ (counts_line c.in-Ok.counts) c.args.place.now c.write_counts.new.place c.write_counts.result c.unwrap-at.result c.write_counts.ensures.answer c.write_counts.ensures.place c.unwrap-at.ensures (omega (arith, c.write_counts.ensures.short)) in
+    closed_listed (state_of c.args.net.now) (state_of c.close.new.net) c.in-Ok.counts c.args.place.now c.write_counts.new.place c.write_windows.new.place c.unwrap-at.result c.write_windows.result g.answer.0 g.answer.1 g.events g.bounds front c.write_windows.ensures.place (omega (arith, c.write_windows.ensures.short, front.ends, c.write_counts.ensures.short))
 
 pub returns-in-Err : goal.returns-in-Err
 returns-in-Err c =
@@ -22,5 +22,5 @@ returns-in-Err c =
     let e : c.in-Err.shown - 0 ≡ c.in-Err.shown = omega arith in
     let shown : Loop micros (InForce (state_of c.args.net.now).bounds) loop = rw e g.answer.2 in
     let few : length loop ≤ 32 = rw length-take (omega (arith, g.answer.1)) in
-    let stands = line_stands _ (contradiction_text loop) c.args.place.now c.write-contradiction.new.place c.write-contradiction.result c.unwrap.result c.write-contradiction.ensures.answer c.write-contradiction.ensures.place c.unwrap.ensures (omega (arith, c.write-contradiction.ensures.short few)) in
-    shown_listed (state_of c.args.net.now) loop c.args.place.now c.write-contradiction.new.place c.unwrap.result g.answer.0 shown stands (omega (arith, stands.ends, c.write-contradiction.ensures.short few))
+    let stands = line_stands _ (contradiction_text loop) c.args.place.now c.write_contradiction.new.place c.write_contradiction.result c.unwrap.result c.write_contradiction.ensures.answer c.write_contradiction.ensures.place c.unwrap.ensures (omega (arith, c.write_contradiction.ensures.short few)) in
+    shown_listed (state_of c.args.net.now) loop c.args.place.now c.write_contradiction.new.place c.unwrap.result g.answer.0 shown stands (omega (arith, stands.ends, c.write_contradiction.ensures.short few))

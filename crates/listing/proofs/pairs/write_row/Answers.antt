@@ -16,6 +16,6 @@ loop-to-preserved c =
     let from = c.args.from in
     let text = pair_text (ends_of (state_of c.args.net.now)) from in
     let more = texts_more text (from + 1) c.loop-to.to c.loop-to.auto.to in
-    let fits : c.loop-to.at + c.write-pair-at.result ≤ length c.args.place.now = omega arith in
-    let stands = stands_more c.args.place.now c.loop-to.place (texts text (from + 1) (c.loop-to.to - (from + 1))) (text c.loop-to.to) c.args.start c.loop-to.at c.write-pair-at.result c.loop-to.invariant.0 c.write-pair-at.ensures.answer fits in
-    (rw (more, c.write-pair-at.ensures.place) stands, omega arith)
+    let fits : c.loop-to.at + c.write_pair-at.result ≤ length c.args.place.now = omega arith in
+    let stands = stands_more c.args.place.now c.loop-to.place (texts text (from + 1) (c.loop-to.to - (from + 1))) (text c.loop-to.to) c.args.start c.loop-to.at c.write_pair-at.result c.loop-to.invariant.0 c.write_pair-at.ensures.answer fits in
+    (rw (more, c.write_pair-at.ensures.place) stands, omega arith)

@@ -13,8 +13,8 @@ loop-from-init c =
     let none = texts_zero (row_text (state_of c.args.net.now).events (ends_of (state_of c.args.net.now))) 0 in
     (rw none (stands_none c.args.place.now c.args.start (omega arith)), omega arith)
 
-pub write-row-at-requires : goal.write-row-at-requires
-write-row-at-requires c =
+pub write_row-at-requires : goal.write_row-at-requires
+write_row-at-requires c =
     let n = (state_of c.args.net.now).events in
     let more = before_more n c.loop-from.from in
     let below = few n (c.loop-from.from + 1) (omega arith) (omega arith) in
@@ -26,7 +26,7 @@ loop-from-preserved c =
     let text = row_text n (ends_of (state_of c.args.net.now)) in
     let next = texts_next text c.loop-from.from in
     let more = before_more n c.loop-from.from in
-    (rw next (stands_then c.args.place.now c.loop-from.place c.write-row-at.new.place (texts text 0 c.loop-from.from) (text c.loop-from.from) c.args.start c.loop-from.at c.write-row-at.result c.loop-from.invariant.0 c.write-row-at.ensures.place), omega arith)
+    (rw next (stands_then c.args.place.now c.loop-from.place c.write_row-at.new.place (texts text 0 c.loop-from.from) (text c.loop-from.from) c.args.start c.loop-from.at c.write_row-at.result c.loop-from.invariant.0 c.write_row-at.ensures.place), omega arith)
 
 pub returns : goal.returns
 returns c =
