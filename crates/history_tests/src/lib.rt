@@ -1,4 +1,6 @@
 // Lists of calls by example: accepted and refused ones, and what the net tells after them.
+#![tactic(auto)]
+
 #[cfg(test)]
 mod tests {
     use history::call::Call;

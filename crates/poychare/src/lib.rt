@@ -1,4 +1,6 @@
 // The entry for a host written in C: the listing of a sheet.
+#![tactic(auto)]
+
 ghost use Rattle.poychare.specs.Handed.{Handed};
 
 use listing::listing::listing;

@@ -1,4 +1,6 @@
 // Plans two bus cycles on a net, call by call: prints each call with its answer, and what the net tells then.
+#![tactic(auto)]
+
 use history::call::{Asked, Call};
 use history::performing::perform;
 use kinds::kind::Kind;

@@ -1,4 +1,6 @@
 // Reads a sheet of whole microseconds from standard input and prints its listing.
+#![tactic(auto)]
+
 use listing::listing::{SHORTEST_PLACE, listing};
 use std::io;
 use std::io::{Read, Write};
