@@ -1,6 +1,8 @@
 // One close of 128 events against Floyd–Warshall over the same numbers, for several shapes of net.
 // Without a word, it says whether both agree. With the word `time` it tells by how much one close is faster.
 // With a shape's name and `build`, `close` or `floyd`, it does that once, for a counter of instructions.
+#![tactic(auto)]
+
 mod floyd;
 mod shapes;
 

@@ -1,4 +1,4 @@
-// The entry for a host written in C: the listing of a sheet.
+// The entry for hosts: the listing of a sheet. The crate poychare_c exports it to C.
 #![tactic(auto)]
 
 ghost use Rattle.poychare.specs.Handed.{Handed};
@@ -9,9 +9,7 @@ use listing::listing::listing;
 const TOO_SHORT: i64 = -5;
 
 // Lists the sheet at the front of the place, and answers the length of the listing or -5.
-// In C each of the two slices is a pointer and a length.
-#[unsafe(no_mangle)]
-pub extern "C" fn poychare_listing(sheet: &[u8], place: &mut [u8]) -> i64
+pub fn poychare_listing(sheet: &[u8], place: &mut [u8]) -> i64
     ensures { Handed sheet.now place.old place.new result }
 {
     match listing(sheet, place) {

@@ -1,4 +1,6 @@
 // Holds nets of both kinds to the trial's own plain computations: limits, random nets, random successions of calls.
+#![tactic(auto)]
+
 mod amount;
 mod answers;
 mod bytes;
