@@ -1,20 +1,18 @@
 -- The loop that is shown.
-use Rattle.std.proofs.Common.{◌≡◌, ℕ, zero, suc, ◌+◌, ◌*◌, ◌<◌, ◌≤◌, ◌≢◌, ◌⊎◌, List, [], ◌∷◌, ◌++◌, length, get_or, take, set, ℤ, Some, None, Option, sym, refl, ap, ◌∙◌, subst, inl, inr, ⊎_elim, eq-or-lt_of_le, arith}
-use Rattle.kinds.specs.Arithmetic.{Arithmetic, Amount, AtMost, Lawful}
+use Rattle.std.proofs.Common.{◌≡◌, ℕ, suc, ◌<◌, ◌≤◌, List, [], ◌∷◌, length, take, set, ℤ, sym, refl, ap, ◌∙◌, subst, inl, inr, eq-or-lt_of_le, arith}
+use Rattle.kinds.specs.Arithmetic.{Arithmetic, Amount, Lawful}
 use Rattle.elimination.specs.Amounts.{Amounts}
-use Rattle.elimination.specs.Walks.{Walk, Any, Ring, Kept}
+use Rattle.elimination.specs.Walks.{Walk, Any, Ring}
 use Rattle.elimination.specs.Walks.Walk.{one, step}
-use Rattle.elimination.specs.Simple.{Member, Distinct, Row}
+use Rattle.elimination.specs.Simple.{Row}
 use Rattle.elimination.specs.Simple.Row.{stop, on}
-use Rattle.elimination.proofs.Order.{unit_right, mono_right, mono_both, le_eq}
 use Rattle.elimination.proofs.Steps.{ring}
 use Rattle.elimination.proofs.Sized.{upper_calm}
 use Rattle.elimination.specs.Held.{Held, nil, plus, le}
 use Rattle.elimination.proofs.Laws.{same, amounts}
-use Rattle.table.specs.declared.cell.Cell.{Cell}
 use Rattle.eliminator.specs.Views.{Grid}
-use Rattle.eliminator.specs.State.{Forced, Works, SameForce, Ready, Split, Traced, Stage, Falls, Failed}
-use Rattle.closing.specs.Trace.{Names, choose, pushed, Leg, Calm, Rows, Onward, Splits, Shown, Shows, Partway}
+use Rattle.eliminator.specs.State.{Forced, Works, SameForce, Ready, Stage, Failed}
+use Rattle.closing.specs.Trace.{Names, Calm, Onward, Splits, Shown, Shows, Partway}
 use Rattle.closing.proofs.Traces.{unsplit}
 
 module _ {A : Type 0} {nil : A} {plus : A → A → A} {le : A → A → Type 0} (L : Amounts nil plus le) where

@@ -1,5 +1,5 @@
 -- A row of events that keeps each once.
-use Rattle.std.proofs.Common.{◌≡◌, ℕ, zero, suc, ◌+◌, ◌*◌, ◌<◌, ◌≤◌, ◌≢◌, ◌⊎◌, List, [], ◌∷◌, ◌++◌, length, get_or, take, set, sym, refl, ap, ◌∙◌, subst, inl, inr, ⊎_elim, add-one, arith, length-take-le, get_or-take, take-take, take-suc-set}
+use Rattle.std.proofs.Common.{◌≡◌, ℕ, zero, suc, ◌+◌, ◌<◌, ◌≤◌, ◌⊎◌, List, [], ◌∷◌, ◌++◌, length, get_or, take, set, sym, refl, ap, ◌∙◌, inl, inr, add-one, arith, length-take-le, get_or-take, take-take, take-suc-set}
 use native.Mathlib.Decide.{ℕ_discrete}
 use Rattle.elimination.specs.Simple.{Member, Distinct}
 use Rattle.elimination.proofs.Short.{pigeons}

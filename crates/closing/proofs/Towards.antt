@@ -1,17 +1,13 @@
 -- The walk behind a least sum.
-use Rattle.std.proofs.Common.{◌≡◌, ℕ, zero, suc, ◌+◌, ◌*◌, ◌<◌, ◌≤◌, max, ◌≢◌, ◌⊎◌, List, [], ◌∷◌, ◌++◌, length, get_or, take, set, ℤ, Some, None, Option, sym, refl, ap, ◌∙◌, subst, inl, inr, ⊎_elim, arith}
-use Rattle.kinds.specs.Arithmetic.{Arithmetic, Amount, AtMost, Lawful}
-use Rattle.elimination.specs.Simple.{Row}
-use Rattle.elimination.specs.Simple.Row.{stop, on}
+use Rattle.std.proofs.Common.{◌≡◌, ℕ, ◌<◌, max, ◌≢◌, List, [], ◌∷◌, ℤ, Some, None, Option, sym, refl, ap, ◌∙◌, subst, arith}
+use Rattle.kinds.specs.Arithmetic.{Arithmetic, Amount, Lawful}
+use Rattle.elimination.specs.Simple.Row.{stop}
 use Rattle.elimination.specs.Held.{Held, nil, plus, le}
 use Rattle.elimination.proofs.Laws.{same, amounts}
-use Rattle.table.specs.declared.cell.Cell.{Cell}
 use Rattle.eliminator.specs.Views.{Grid}
-use Rattle.eliminator.specs.State.{Works, Traced}
-use Rattle.closing.specs.Trace.{Calm, Rows, Onward}
+use Rattle.closing.specs.Trace.{Onward}
 use Rattle.closing.proofs.Traces.{chain}
-use Rattle.sweeper.specs.declared.least.Least.{Least}
-use Rattle.sweeper.specs.Sums.{Leasts, Sums, Leads, Parts, Led}
+use Rattle.sweeper.specs.Sums.{Leasts, Leads, Led}
 use Rattle.closing.specs.Walked.{Toward, Walked}
 
 lower : (n i j m : ℕ) → i < n → j < n → m < max i j → m < n

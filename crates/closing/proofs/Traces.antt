@@ -1,19 +1,18 @@
 -- What a push does to a row of bounds.
-use Rattle.std.proofs.Common.{◌≡◌, ℕ, zero, suc, ◌+◌, ◌*◌, ◌<◌, ◌≤◌, ◌≢◌, ◌⊎◌, List, [], ◌∷◌, ◌++◌, length, get_or, take, ℤ, Some, None, Option, sym, refl, ap, ◌∙◌, subst, inl, inr, ⊎_elim, arith}
+use Rattle.std.proofs.Common.{◌≡◌, ℕ, ◌<◌, ◌≢◌, List, [], ◌∷◌, ℤ, Some, None, Option, sym, refl, ap, ◌∙◌, subst, arith}
 use native.Mathlib.Decide.{ℕ_discrete}
-use Rattle.kinds.specs.Arithmetic.{Arithmetic, Amount, AtMost, Lawful}
+use Rattle.kinds.specs.Arithmetic.{Arithmetic, Amount}
 use Rattle.elimination.specs.Amounts.{Amounts}
 use Rattle.elimination.specs.Walks.{Walk, Any}
 use Rattle.elimination.specs.Walks.Walk.{one, step}
-use Rattle.elimination.specs.Simple.{Member, Distinct, Row}
+use Rattle.elimination.specs.Simple.{Row}
 use Rattle.elimination.specs.Simple.Row.{stop, on}
-use Rattle.elimination.proofs.Order.{unit_right, mono_right, mono_both, le_eq}
-use Rattle.elimination.specs.Held.{Held, nil, plus, le}
+use Rattle.elimination.proofs.Order.{mono_right, le_eq}
+use Rattle.elimination.specs.Held.{Held, plus, le}
 use Rattle.elimination.proofs.Laws.{same, amounts}
-use Rattle.table.specs.declared.cell.Cell.{Cell}
 use Rattle.eliminator.specs.Views.{Grid}
-use Rattle.eliminator.specs.State.{Forced, Works, Split, Traced}
-use Rattle.closing.specs.Trace.{choose, pushed, Leg, Calm, Rows, Onward, Splits}
+use Rattle.eliminator.specs.State.{Traced}
+use Rattle.closing.specs.Trace.{choose, pushed, Rows, Onward, Splits}
 
 module _ {A : Type 0} {nil : A} {plus : A → A → A} {le : A → A → Type 0} (L : Amounts nil plus le) {E : ℕ → ℕ → A → Type 0} where
   -- a row and one bound more

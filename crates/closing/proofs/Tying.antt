@@ -1,5 +1,5 @@
 -- From ranks to events, and from the theory of elimination to walks and distances.
-use Rattle.std.proofs.Common.{◌≡◌, ℕ, zero, suc, ◌+◌, ◌*◌, ◌^◌, ◌<◌, ◌≤◌, Bool, true, false, ◌&&◌, ltb, ◌≢◌, ◌⊎◌, List, [], ◌∷◌, ◌++◌, map, length, get_or, take, drop, ℤ, Some, None, Option, sym, refl, ap, ◌∙◌, subst, ap₂, inl, inr, ⊎_elim, arith, length-take-le}
+use Rattle.std.proofs.Common.{◌≡◌, ℕ, ◌+◌, ◌*◌, ◌^◌, ◌<◌, ◌≤◌, Bool, true, false, ◌&&◌, ltb, ◌≢◌, ◌⊎◌, List, [], ◌∷◌, ◌++◌, map, length, take, ℤ, Some, None, Option, sym, refl, ap, ◌∙◌, subst, ap₂, inl, inr, arith, length-take-le}
 use mathlib.Core.Path.{fun_ext}
 use Rattle.std.proofs.lemmas.Bool.{cases_eq, cases_lt, cases_Bool, ltb-true, lt-ltb}
 use Rattle.kinds.specs.Arithmetic.{Arithmetic, Amount, AtMost, Lawful}
@@ -24,12 +24,12 @@ use Rattle.elimination.proofs.Laws.{same, amounts, measured}
 use Rattle.elimination.proofs.Sized.{swept_small, into_small, out_small}
 use Rattle.elimination.proofs.Short.{pigeons}
 use Rattle.eliminator.specs.Views.{Grid, event_at, rank_at, view}
-use Rattle.eliminator.specs.Begun.{begun, Begun}
-use Rattle.eliminator.specs.State.{Forced, Works, SameForce, Ready, Traced, Stage, Failed}
-use Rattle.closing.specs.Trace.{Names, Shown, Shows, Calm, Leg, Rows}
-use Rattle.sweeper.specs.Sums.{Leasts, leasts, Sums, Led}
+use Rattle.eliminator.specs.Begun.{Begun}
+use Rattle.eliminator.specs.State.{Forced, SameForce, Ready, Traced, Stage, Failed}
+use Rattle.closing.specs.Trace.{Names, Shown, Shows}
+use Rattle.sweeper.specs.Sums.{Leasts, leasts, Led}
 use Rattle.closing.specs.Walked.{Walked}
-use Rattle.sweeper.specs.Best.{SameWork, Table, Summed, Swept}
+use Rattle.sweeper.specs.Best.{SameWork, Table, Swept}
 use Rattle.closing.specs.Closed.{Holds, Walks}
 use Rattle.eliminator.proofs.Viewing.{view_is, one_rank}
 use Rattle.eliminator.proofs.Visiting.{never}

@@ -1,5 +1,5 @@
 -- What a closed table holds, and what closing comes to, in the words of walks and distances.
-use Rattle.std.specs.Prelude.{◌≡◌, ℕ, ◌^◌, ◌<◌, ◌≤◌, true, false, ◌≢◌, ◌⊎◌, List, take, drop, ℤ, Some, None, Ok, Err, Option, Result}
+use Rattle.std.specs.Prelude.{◌≡◌, ℕ, ◌^◌, ◌<◌, ◌≤◌, false, ◌≢◌, ◌⊎◌, List, take, drop, ℤ, Some, Ok, Err, Result}
 use Rattle.kinds.specs.Arithmetic.{Arithmetic, Lawful}
 use Rattle.order.specs.declared.event_order.EventOrder.{EventOrder}
 use Rattle.table.specs.declared.cell.Cell.{Cell}

@@ -1,13 +1,12 @@
 -- The walk behind a worked bound, and the loop that is shown.
-use Rattle.std.specs.Prelude.{◌≡◌, ℕ, suc, ◌+◌, ◌*◌, ◌^◌, ◌<◌, ◌≤◌, ◌≢◌, ◌⊎◌, List, [], ◌∷◌, length, get_or, take, ℤ, Some, None, Option}
+use Rattle.std.specs.Prelude.{◌≡◌, ℕ, ◌<◌, ◌≤◌, ◌≢◌, List, [], ◌∷◌, ℤ, Some}
 use Rattle.std.proofs.Math.Decide.{ℕ_discrete}
-use Rattle.kinds.specs.Arithmetic.{Arithmetic, Amount, AtMost, Lawful}
+use Rattle.kinds.specs.Arithmetic.{Arithmetic, Lawful}
 use Rattle.elimination.specs.Walks.{Walk, Any}
 use Rattle.elimination.specs.Simple.{Member, Distinct, Row}
 use Rattle.elimination.specs.Held.{Held, nil, plus, le}
-use Rattle.table.specs.declared.cell.Cell.{Cell}
 use Rattle.eliminator.specs.Views.{Grid}
-use Rattle.eliminator.specs.State.{Forced, Works, Ready, Traced, Stage}
+use Rattle.eliminator.specs.State.{Forced, Works, Traced}
 
 -- events below n, none named twice
 pub record Names (n : ℕ) (vs : List ℕ) : Type 0 where

@@ -1,13 +1,10 @@
 -- The walk behind a least sum.
-use Rattle.std.specs.Prelude.{◌≡◌, ℕ, suc, ◌+◌, ◌*◌, ◌^◌, ◌<◌, ◌≤◌, max, ◌≢◌, ◌⊎◌, List, [], ◌∷◌, length, get_or, take, ℤ, Some, None, Option}
-use Rattle.kinds.specs.Arithmetic.{Arithmetic, Amount, AtMost, Lawful}
-use Rattle.elimination.specs.Held.{Held, nil, plus, le}
-use Rattle.elimination.specs.Simple.{Member, Distinct, Row}
-use Rattle.table.specs.declared.cell.Cell.{Cell}
+use Rattle.std.specs.Prelude.{ℕ, ◌≢◌, List, ℤ}
+use Rattle.kinds.specs.Arithmetic.{Arithmetic, Lawful}
+use Rattle.elimination.specs.Held.{Held, plus, le}
 use Rattle.eliminator.specs.Views.{Grid}
-use Rattle.eliminator.specs.State.{Forced, Works, Traced}
+use Rattle.eliminator.specs.State.{Traced}
 use Rattle.closing.specs.Trace.{Calm, Rows}
-use Rattle.sweeper.specs.declared.least.Least.{Least}
 use Rattle.sweeper.specs.Sums.{Leasts, Sums, Led}
 
 abbrev pub Toward : {K : Type 0} → (A : Arithmetic) → (K → List ℤ) → ℕ → Grid K → Leasts K → ℕ → ℕ → List ℕ → List ℕ → Type 0

@@ -1,12 +1,11 @@
 -- The elimination in one table.
-use mathlib.Core.Path.{◌≡◌, refl, sym, ap, ◌∙◌, subst}
-use mathlib.Core.Logic.{◌⊎◌, inl, inr, ◌≢◌}
+use mathlib.Core.Path.{◌≡◌}
+use mathlib.Core.Logic.{◌⊎◌, inl, inr}
 use Prim.Native.Nat.{ℕ, ◌≤◌, ◌<◌, suc}
 use native.Mathlib.Omega.{arith}
 use native.Mathlib.Nat.{eq-or-lt_of_le}
 use Rattle.elimination.specs.Amounts.{Amounts}
-use Rattle.elimination.specs.Walks.{Walk, Any, Exact, Worked, Ring, Kept, Tests, Eliminates}
-use Rattle.elimination.proofs.Rows.{loosen, join}
+use Rattle.elimination.specs.Walks.{Exact, Ring, Kept, Tests, Eliminates}
 use Rattle.elimination.proofs.Steps.{starts, ring, eliminated}
 
 module _ {A : Type 0} {zero : A} {plus : A → A → A} {le : A → A → Type 0} (L : Amounts zero plus le) {E : ℕ → ℕ → A → Type 0} where

@@ -1,12 +1,12 @@
 -- The amounts of a lawful kind keep the laws of elimination and sweep.
-use mathlib.Core.Path.{◌≡◌, refl, sym, ap, ◌∙◌, subst}
+use mathlib.Core.Path.{◌≡◌, ap, subst}
 use mathlib.Core.Bool.{true, Bool-set}
 use mathlib.Core.List.{List}
 use lib.IntN.{ℤ}
 use Rattle.kinds.specs.Arithmetic.{Arithmetic, Amount, Lawful}
 use Rattle.elimination.specs.Amounts.{Amounts}
 use Rattle.elimination.specs.Sizes.{Measured}
-use Rattle.elimination.specs.Held.{Held, nil, plus, le, size, Keeps}
+use Rattle.elimination.specs.Held.{Held, nil, plus, le, size}
 
 -- a row is an amount in one way, since a test has one answer
 once : (A : Arithmetic) (x : List ℤ) (p q : Amount A x) → p ≡ q

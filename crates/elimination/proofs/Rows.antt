@@ -1,12 +1,12 @@
 -- Joining and splitting walks.
-use mathlib.Core.Path.{◌≡◌, refl, sym, ap, ◌∙◌, subst}
+use mathlib.Core.Path.{refl, sym, ap, ◌∙◌}
 use mathlib.Core.Logic.{◌⊎◌, inl, inr}
 use Prim.Native.Nat.{ℕ, ◌≤◌, ◌<◌}
 use native.Mathlib.Nat.{eq-or-lt_of_le}
 use Rattle.elimination.specs.Amounts.{Amounts}
 use Rattle.elimination.specs.Walks.{Walk, Parts, Below, Around}
 use Rattle.elimination.specs.Walks.Walk.{one, step}
-use Rattle.elimination.proofs.Order.{drop_front, mono_right, le_eq}
+use Rattle.elimination.proofs.Order.{drop_front, mono_right}
 
 -- a walk under a looser rule on what lies inside
 pub loosen : {A : Type 0} {plus : A → A → A} {E : ℕ → ℕ → A → Type 0} {P Q : ℕ → Type 0} → ((x : ℕ) → P x → Q x) → {i j : ℕ} {s : A} → Walk plus E P i j s → Walk plus E Q i j s

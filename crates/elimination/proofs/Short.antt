@@ -1,6 +1,6 @@
 -- A walk comes to no less than one that names no event twice, and such a one is short.
-use mathlib.Core.Path.{◌≡◌, refl, sym, ap, ◌∙◌, subst}
-use mathlib.Core.Logic.{◌⊎◌, inl, inr, ◌≢◌}
+use mathlib.Core.Path.{◌≡◌, refl, ap, subst}
+use mathlib.Core.Logic.{inl, inr, ◌≢◌}
 use mathlib.Core.List.{List, [], ◌∷◌}
 use Prim.Native.Nat.{ℕ, ◌≤◌, ◌<◌, zero, suc}
 use native.Mathlib.Omega.{arith}
@@ -11,7 +11,7 @@ use Rattle.elimination.specs.Walks.{Walk, Any}
 use Rattle.elimination.specs.Walks.Walk.{one, step}
 use Rattle.elimination.specs.Simple.{Member, Distinct, Row, Simple}
 use Rattle.elimination.specs.Simple.Row.{stop, on}
-use Rattle.elimination.proofs.Order.{unit_right, drop_front, mono_right, le_eq}
+use Rattle.elimination.proofs.Order.{unit_right, drop_front, mono_right}
 use Rattle.elimination.proofs.Rows.{join}
 
 pub member? : (x : ℕ) (xs : List ℕ) → Dec (Member x xs)

@@ -1,18 +1,18 @@
 -- Why a worked bound is small: it is the sum of a walk that names no event twice.
-use mathlib.Core.Path.{◌≡◌, refl, sym, ap, ◌∙◌, subst}
+use mathlib.Core.Path.{◌≡◌, refl, sym, ap, ◌∙◌}
 use mathlib.Core.Logic.{◌⊎◌, inl, inr, ◌≢◌}
-use mathlib.Core.List.{List, [], ◌∷◌}
+use mathlib.Core.List.{List}
 use Prim.Native.Nat.{ℕ, ◌+◌, ◌-◌, ◌*◌, ◌^◌, ◌≤◌, ◌<◌, zero, suc}
 use native.Mathlib.Omega.{arith}
 use native.Mathlib.Nat.{eq-or-lt_of_le}
 use native.Mathlib.Decide.{dec_le}
 use lib.ListN.{length}
 use Rattle.elimination.specs.Amounts.{Amounts}
-use Rattle.elimination.specs.Walks.{Walk, Any, Exact, Below, Around, Ring, Worked, Kept, Swept}
+use Rattle.elimination.specs.Walks.{Walk, Any, Exact, Ring, Kept, Swept}
 use Rattle.elimination.specs.Walks.Walk.{one, step}
-use Rattle.elimination.specs.Simple.{Member, Distinct, Row, Simple}
+use Rattle.elimination.specs.Simple.{Member, Row}
 use Rattle.elimination.specs.Simple.Row.{stop, on}
-use Rattle.elimination.proofs.Order.{unit_right, drop_front, drop_back, mono_right, le_eq}
+use Rattle.elimination.proofs.Order.{unit_right, drop_back}
 use Rattle.elimination.proofs.Rows.{join, loosen, cut}
 use Rattle.elimination.proofs.Short.{simple, pigeons}
 use Rattle.elimination.specs.Sizes.{Measured, Net}

@@ -1,14 +1,12 @@
 -- One step of the elimination.
-use mathlib.Core.Path.{◌≡◌, refl, sym, ap, ◌∙◌, subst}
 use mathlib.Core.Logic.{◌⊎◌, inl, inr, ◌≢◌}
 use Prim.Native.Nat.{ℕ, ◌≤◌, ◌<◌, suc}
 use native.Mathlib.Omega.{arith}
-use native.Mathlib.Nat.{eq-or-lt_of_le}
 use Rattle.elimination.specs.Amounts.{Amounts}
-use Rattle.elimination.specs.Walks.{Walk, Any, Parts, Below, Around, Exact, Worked, Ring, Swept, Tests, Eliminates, Sweeps}
+use Rattle.elimination.specs.Walks.{Walk, Below, Around, Worked, Ring, Tests, Eliminates}
 use Rattle.elimination.specs.Walks.Walk.{one, step}
-use Rattle.elimination.proofs.Order.{drop_front, drop_back, mono_right, mono_both, le_eq}
-use Rattle.elimination.proofs.Rows.{loosen, join, first, last, cut}
+use Rattle.elimination.proofs.Order.{mono_both}
+use Rattle.elimination.proofs.Rows.{loosen, join, cut}
 
 module _ {A : Type 0} {zero : A} {plus : A → A → A} {le : A → A → Type 0} (L : Amounts zero plus le) {E : ℕ → ℕ → A → Type 0} where
   -- at the start: no bound stands from or to what lies at n or above

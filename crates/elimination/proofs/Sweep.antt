@@ -1,13 +1,12 @@
 -- One step of the sweep: D exact below k, and then up to k.
-use mathlib.Core.Path.{◌≡◌, refl, sym, ap, ◌∙◌, subst}
+use mathlib.Core.Path.{◌≡◌, refl, sym, ap, ◌∙◌}
 use mathlib.Core.Logic.{◌⊎◌, inl, inr, ◌≢◌}
 use Prim.Native.Nat.{ℕ, ◌≤◌, ◌<◌, suc}
 use native.Mathlib.Omega.{arith}
 use native.Mathlib.Decide.{dec_le, ℕ_discrete}
-use native.Mathlib.Nat.{eq-or-lt_of_le}
 use Rattle.elimination.specs.Amounts.{Amounts}
-use Rattle.elimination.specs.Walks.{Walk, Any, Parts, Below, Around, Exact, Ring, Swept, Sweeps}
-use Rattle.elimination.proofs.Order.{unit_right, drop_front, drop_back, mono_right, mono_both, le_eq}
+use Rattle.elimination.specs.Walks.{Walk, Any, Exact, Ring, Swept, Sweeps}
+use Rattle.elimination.proofs.Order.{unit_right, drop_front, drop_back, mono_both}
 use Rattle.elimination.proofs.Rows.{loosen, join, first, last, cut}
 
 -- below k, or from k on

@@ -1,5 +1,5 @@
 -- The amounts of a kind, each with the proof that it is one.
-use Rattle.std.specs.Prelude.{◌≡◌, List, ℕ, ℤ}
+use Rattle.std.specs.Prelude.{List, ℕ, ℤ}
 use Rattle.kinds.specs.Arithmetic.{Arithmetic, Amount, AtMost, Lawful}
 use Rattle.elimination.specs.Amounts.{Amounts}
 use Rattle.elimination.specs.Sizes.{Measured}

@@ -1,5 +1,5 @@
 -- Rows that name their events.
-use Rattle.std.specs.Prelude.{◌≡◌, ◌⊎◌, List, [], ◌∷◌, ℕ, ◌≤◌, ◌<◌}
+use Rattle.std.specs.Prelude.{◌≡◌, ◌⊎◌, List, [], ◌∷◌, ℕ}
 
 abbrev pub Member : ℕ → List ℕ → Type 0
 Member x [] = ⊥

@@ -1,7 +1,5 @@
 -- Amounts that have a size, and bounds that are small.
-use Rattle.std.specs.Prelude.{◌≡◌, ◌⊎◌, ◌≢◌, ℕ, ◌+◌, ◌*◌, ◌^◌, ◌≤◌, ◌<◌}
-use Rattle.elimination.specs.Amounts.{Amounts}
-use Rattle.elimination.specs.Walks.{Walk, Kept, Swept, Exact}
+use Rattle.std.specs.Prelude.{◌≡◌, ℕ, ◌+◌, ◌^◌, ◌≤◌, ◌<◌}
 
 pub record Measured {A : Type 0} (nil : A) (plus : A → A → A) (le : A → A → Type 0) (size : A → ℕ) : Type 0 where
   pub anti : (a b : A) → le a b → le b a → a ≡ b

@@ -1,5 +1,5 @@
 -- A walk: a row of events, each joined to the next by a bound in force.
-use Rattle.std.specs.Prelude.{◌≡◌, ◌⊎◌, ◌≢◌, ℕ, ◌≤◌, ◌<◌, suc}
+use Rattle.std.specs.Prelude.{◌≡◌, ◌⊎◌, ◌≢◌, ℕ, ◌≤◌, ◌<◌}
 
 -- E i j a: the bound a stands from i to j. P: what each event inside the row satisfies.
 pub data Walk {A : Type 0} (plus : A → A → A) (E : ℕ → ℕ → A → Type 0) (P : ℕ → Type 0) : ℕ → ℕ → A → Type 0 where

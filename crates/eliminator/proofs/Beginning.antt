@@ -1,11 +1,11 @@
 -- What closing begins with.
-use Rattle.std.proofs.Common.{◌≡◌, ℕ, ◌+◌, ◌*◌, ◌<◌, ◌≤◌, Bool, true, false, ◌||◌, eqb, ◌≢◌, ◌⊎◌, List, length, get_or, set, None, sym, refl, ap, ◌∙◌, subst, inl, inr, ⊎_elim, arith, get_or-set_other, get_or-set_same}
-use Rattle.std.proofs.lemmas.Bool.{cases_eq, eq-eqb, ne_eqb}
+use Rattle.std.proofs.Common.{◌≡◌, ℕ, ◌+◌, ◌*◌, ◌<◌, ◌≤◌, Bool, true, false, ◌||◌, eqb, ◌≢◌, List, length, get_or, set, None, sym, refl, ap, ◌∙◌, subst, ⊎_elim, arith, get_or-set_other, get_or-set_same}
+use Rattle.std.proofs.lemmas.Bool.{cases_eq, eq-eqb}
 use Rattle.marks.specs.declared.set.Marks.{Marks}
 use Rattle.marks.specs.Sets.{has}
 use Rattle.order.specs.declared.event_order.EventOrder.{EventOrder}
 use Rattle.table.specs.declared.cell.Cell.{Cell}
-use Rattle.table.specs.Cells.{empty, at_cell}
+use Rattle.table.specs.Cells.{empty}
 use Rattle.table.proofs.Tables.{place_below}
 use Rattle.eliminator.specs.Views.{Grid, event_at, view}
 use Rattle.eliminator.specs.Begun.{begun, Begun}

@@ -1,10 +1,9 @@
 -- A list of members grows by one at each turn.
-use Rattle.std.proofs.Common.{◌≡◌, ℕ, zero, suc, ◌+◌, ◌<◌, ◌≤◌, Bool, true, false, cond, not, ◌&&◌, eqb, ◌≢◌, ◌⊎◌, List, length, get_or, set, sym, refl, ap, ◌∙◌, subst, inl, inr, arith, get_or-set_other, get_or-set_same}
-use Rattle.std.proofs.lemmas.Bool.{cases_eq}
+use Rattle.std.proofs.Common.{◌≡◌, ℕ, zero, suc, ◌+◌, ◌<◌, ◌≤◌, Bool, true, false, cond, not, ◌&&◌, eqb, ◌≢◌, List, length, get_or, set, sym, ap, ◌∙◌, subst, inl, inr, arith, get_or-set_other, get_or-set_same}
 use Rattle.elimination.proofs.Sweep.{up_to}
 use Rattle.marks.specs.declared.set.Marks.{Marks}
 use Rattle.marks.specs.Sets.{has, how_many}
-use Rattle.eliminator.specs.Members.{Among, Apart, Lists}
+use Rattle.eliminator.specs.Members.{Lists}
 use Rattle.eliminator.proofs.Visiting.{Seen, Waits, never, seen_more, seen_here, seen_less}
 
 one_at_most : (b : Bool) → ◌≤◌ (cond b 1 0) 1

@@ -1,16 +1,16 @@
 -- What relaxing a cell, a row and all pairs of lower neighbours comes to.
-use Rattle.std.proofs.Common.{◌≡◌, ℕ, suc, ◌+◌, ◌*◌, ◌<◌, ◌≤◌, Bool, true, false, not, ◌&&◌, ◌||◌, eqb, ltb, ◌≢◌, ◌⊎◌, List, length, get_or, set, ℤ, Some, None, Option, sym, refl, ap, ◌∙◌, subst, inl, inr, ⊎_elim, arith, get_or-set_other, get_or-set_same}
+use Rattle.std.proofs.Common.{◌≡◌, ℕ, ◌+◌, ◌<◌, Bool, true, false, not, ◌&&◌, ◌||◌, eqb, ltb, ◌≢◌, ◌⊎◌, List, length, get_or, set, ℤ, Some, None, Option, sym, refl, ap, ◌∙◌, subst, inl, inr, ⊎_elim, arith, get_or-set_other, get_or-set_same}
 use Rattle.std.proofs.lemmas.Bool.{cases_eq, cases_Bool, ltb-true, lt-ltb}
-use Rattle.kinds.specs.Arithmetic.{Arithmetic, Amount, AtMost, Lawful}
+use Rattle.kinds.specs.Arithmetic.{Arithmetic, Amount, Lawful}
 use Rattle.marks.specs.declared.set.Marks.{Marks}
 use Rattle.marks.specs.Sets.{has}
 use Rattle.table.specs.declared.cell.Cell.{Cell}
 use Rattle.eliminator.specs.Views.{Grid, Written}
 use Rattle.elimination.proofs.Sweep.{up_to}
 use Rattle.eliminator.specs.Members.{Apart, Lists, Others}
-use Rattle.eliminator.specs.Steps.{Shorter, NoShorter, Lowered, Relaxed, marked, OneCell, RowPart, Part, Whole, Lower, Near, Joined}
+use Rattle.eliminator.specs.Steps.{Shorter, NoShorter, Relaxed, marked, OneCell, RowPart, Part, Whole, Lower, Near, Joined}
 use Rattle.eliminator.specs.State.{Bears}
-use Rattle.eliminator.proofs.Visiting.{Seen, Waits, never, out, other, still, left, waits_on, seen_more, seen_here, seen_less}
+use Rattle.eliminator.proofs.Visiting.{Seen, Waits, never, other, still, seen_more, seen_here, seen_less}
 
 swapped : {K : Type 0} {A : Arithmetic} {amount : K → List ℤ} {k : ℕ} {r x r' x' : Cell K} {y z y' z' : Option K} → r' ≡ r → x' ≡ x → y' ≡ y → z' ≡ z → Relaxed A amount k r x y z → Relaxed A amount k r' x' y' z'
 swapped p q s t l = rw (p, q, s, t) l

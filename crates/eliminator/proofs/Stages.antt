@@ -1,8 +1,8 @@
 -- One step of the elimination, over the amounts of a kind.
-use Rattle.std.proofs.Common.{◌≡◌, ℕ, suc, ◌+◌, ◌*◌, ◌^◌, ◌<◌, ◌≤◌, ◌≢◌, ◌⊎◌, List, length, get_or, ℤ, Some, None, Option, sym, refl, ap, ◌∙◌, subst, inl, inr, ⊎_elim, arith}
+use Rattle.std.proofs.Common.{◌≡◌, ℕ, suc, ◌+◌, ◌*◌, ◌^◌, ◌<◌, ◌≤◌, ◌≢◌, ◌⊎◌, List, ℤ, Some, None, Option, sym, refl, ap, ◌∙◌, subst, inl, inr, ⊎_elim, arith}
 use native.Mathlib.Decide.{dec_lt, ℕ_discrete}
 use Rattle.kinds.specs.Arithmetic.{Arithmetic, Amount, AtMost, Lawful}
-use Rattle.elimination.specs.Walks.{Kept, Worked, Ring, Exact, Eliminates, Tests}
+use Rattle.elimination.specs.Walks.{Eliminates, Tests}
 use Rattle.elimination.proofs.Sweep.{up_to}
 use Rattle.elimination.proofs.Steps.{starts}
 use Rattle.elimination.proofs.InPlace.{carry, kept_next}
@@ -12,8 +12,8 @@ use Rattle.elimination.specs.Held.{Held, nil, plus, le, size}
 use Rattle.elimination.proofs.Laws.{same, amounts, measured}
 use Rattle.table.specs.declared.cell.Cell.{Cell}
 use Rattle.eliminator.specs.Views.{Grid}
-use Rattle.eliminator.specs.Steps.{Lowered, Relaxed, Whole}
-use Rattle.eliminator.specs.State.{Forced, Works, SameForce, Ready, Split, Traced, Stage, Falls, Bears, Outcome}
+use Rattle.eliminator.specs.Steps.{Whole}
+use Rattle.eliminator.specs.State.{Forced, Works, SameForce, Ready, Split, Traced, Stage, Bears, Outcome}
 
 -- below k and two, or not
 where_is : (k x y : ℕ) → ((x < k) × (y < k) × (x ≢ y)) ⊎ ((k ≤ x) ⊎ ((k ≤ y) ⊎ (x ≡ y)))

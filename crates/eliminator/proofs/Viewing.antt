@@ -1,10 +1,10 @@
 -- What a write does to the cells by rank.
-use Rattle.std.proofs.Common.{◌≡◌, ℕ, ◌+◌, ◌*◌, ◌<◌, ◌≤◌, List, length, get_or, set, sym, refl, ap, ◌∙◌, arith}
+use Rattle.std.proofs.Common.{◌≡◌, ℕ, ◌+◌, ◌*◌, ◌<◌, ◌≤◌, List, length, set, sym, refl, ap, ◌∙◌}
 use Rattle.order.specs.declared.event_order.EventOrder.{EventOrder}
 use Rattle.table.specs.declared.cell.Cell.{Cell}
 use Rattle.table.specs.Cells.{at_cell}
 use Rattle.table.proofs.Tables.{put_same, put_other}
-use Rattle.eliminator.specs.Views.{Grid, event_at, rank_at, view, Written}
+use Rattle.eliminator.specs.Views.{event_at, rank_at, view, Written}
 
 -- different ranks have different events
 pub one_rank : (order : EventOrder) (r s : ℕ) → r < order.count → s < order.count → event_at order r ≡ event_at order s → r ≡ s

@@ -1,9 +1,8 @@
 -- What the cells hold as the elimination goes on.
-use Rattle.std.specs.Prelude.{◌≡◌, ℕ, suc, ◌+◌, ◌*◌, ◌^◌, ◌<◌, ◌≤◌, ◌≢◌, ◌⊎◌, List, length, get_or, ℤ, Some, None, Option}
-use Rattle.kinds.specs.Arithmetic.{Arithmetic, Amount, AtMost, Lawful}
+use Rattle.std.specs.Prelude.{◌≡◌, ℕ, suc, ◌+◌, ◌^◌, ◌<◌, ◌≤◌, ◌≢◌, List, ℤ, Some, None, Option}
+use Rattle.kinds.specs.Arithmetic.{Arithmetic, AtMost, Lawful}
 use Rattle.elimination.specs.Walks.{Kept}
-use Rattle.elimination.specs.Held.{Held, nil, plus, le}
-use Rattle.table.specs.declared.cell.Cell.{Cell}
+use Rattle.elimination.specs.Held.{nil, plus, le}
 use Rattle.eliminator.specs.Views.{Grid}
 
 -- the bound a is in force from i to j, or was worked out

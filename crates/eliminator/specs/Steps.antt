@@ -1,6 +1,6 @@
 -- One step of the elimination: which cells become less, and how.
 use Rattle.std.specs.Prelude.{◌≡◌, ℕ, ◌+◌, ◌^◌, ◌<◌, ◌≤◌, Bool, true, false, ◌≢◌, ◌⊎◌, List, ℤ, Some, None, Option, slice_index_or}
-use Rattle.kinds.specs.Arithmetic.{Arithmetic, Amount, AtMost}
+use Rattle.kinds.specs.Arithmetic.{Arithmetic, AtMost}
 use Rattle.marks.specs.declared.set.Marks.{Marks}
 use Rattle.marks.specs.Sets.{has}
 use Rattle.table.specs.declared.cell.Cell.{Cell}

@@ -1,5 +1,5 @@
 -- What each call answers, and what it does to how a state stands.
-use Rattle.std.proofs.Common.{◌≡◌, ℕ, ◌<◌, ◌≤◌, Bool, true, false, cond, not, ◌&&◌, eqb, ltb, leb, ◌≢◌, ◌⊎◌, List, [], ◌∷◌, length, ℤ, is_some, Some, None, Option, sym, refl, ◌∙◌, subst, inl, inr, ⊎_elim, arith}
+use Rattle.std.proofs.Common.{◌≡◌, ℕ, ◌<◌, ◌≤◌, Bool, true, false, cond, not, ◌&&◌, eqb, ltb, leb, ◌≢◌, List, [], ◌∷◌, length, ℤ, is_some, Some, None, Option, sym, refl, ◌∙◌, subst, inl, inr, ⊎_elim, arith}
 use Rattle.std.proofs.lemmas.Bool.{both_ways, cases_Bool, and_parts, and_from, ltb-true, leb-true, eqb-true, eqb-false, lt-ltb, le-leb, eq-eqb, or_cases, or_left, or_right, not-true, not-false, cond-true, cond-false, cond_both}
 use Rattle.kinds.specs.Arithmetic.{Arithmetic, Amount, AtMost, Lawful}
 use Rattle.walks.specs.Walks.{Member}

@@ -1,5 +1,5 @@
 -- Eight bytes and the number that they name undo each other.
-use Rattle.std.proofs.Common.{◌≡◌, ℕ, ◌+◌, ◌*◌, ◌^◌, ◌<◌, List, [], ◌∷◌, length, get_or, ℤ, sym, refl, ap, ◌∙◌, subst, arith, w8, w64, Fits, SFits, to_z, of_z}
+use Rattle.std.proofs.Common.{◌≡◌, ℕ, ◌^◌, ◌<◌, List, [], ◌∷◌, length, get_or, ℤ, refl, ap, ◌∙◌, arith, w8, w64, Fits, SFits, to_z, of_z}
 use mir.Facts.{Fits-of_z}
 use Rattle.std.proofs.lemmas.Int.{of_z-to_z, to_z-of_z}
 use Rattle.kinds.specs.Bytes.{eight, of_eight, whole_bytes, whole_of}

@@ -1,9 +1,8 @@
 -- Two numbers laid side by side in one place.
-use Rattle.std.proofs.Common.{◌≡◌, ℕ, ◌+◌, ◌-◌, ◌<◌, ◌≤◌, List, [], ◌∷◌, ◌++◌, length, take, drop, ℤ, sym, refl, ap, ◌∙◌, arith, length-drop, take-append-drop, w64, SFits, to_z, of_z}
+use Rattle.std.proofs.Common.{◌≡◌, ℕ, ◌+◌, List, [], ◌∷◌, ◌++◌, length, take, drop, ℤ, sym, ap, ◌∙◌, arith, length-drop, take-append-drop}
 use borrow.Rule.Slice.PartMut.{put_mid, post_of}
 use Rattle.std.proofs.lemmas.List.{take_at, drop_at, drop_all}
-use Rattle.std.proofs.lemmas.Int.{to_z-of_z}
-use Rattle.kinds.specs.Bytes.{whole_bytes, whole_of}
+use Rattle.kinds.specs.Bytes.{whole_of}
 
 module _ (w : ℕ) where
   pub laid : (x y o : List ℕ) → length x ≡ w → length y ≡ w → length o ≡ w + w → put_mid w w (x ++ post_of 0 w o) y ≡ x ++ (y ++ [])

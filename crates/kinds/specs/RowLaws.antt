@@ -1,10 +1,10 @@
 -- Rows keep all laws of a kind. The order is read by cases, which the proofs use.
-use Rattle.std.specs.Prelude.{◌≡◌, ℕ, zero, suc, ◌+◌, ◌≤◌, max, Bool, true, false, T, ◌⊎◌, List, [], ◌∷◌, length, ℤ, pos, ◌+ℤ◌, neg_ℤ, ◌≤ℤ◌, ◌<ℤ◌, int_lt, unsigned_abs, refl}
+use Rattle.std.specs.Prelude.{◌≡◌, ℕ, zero, suc, ◌+◌, ◌≤◌, Bool, true, false, ◌⊎◌, List, [], ◌∷◌, length, ℤ, pos, ◌+ℤ◌, neg_ℤ, ◌≤ℤ◌, ◌<ℤ◌, int_lt, unsigned_abs, refl}
 use Rattle.std.proofs.Common.{ap, sym, ◌∙◌, inl, inr, ⊎_elim, arith}
 use Rattle.std.proofs.Math.IntN.{+ℤ_assoc, +ℤ_comm, +ℤ_idl, +ℤ_invr}
 use Rattle.std.specs.Int.Signed.{lt_z_yes, lt_z_no}
 use Rattle.std.proofs.lemmas.Int.{by_lt_z, ints}
-use Rattle.kinds.specs.Arithmetic.{Arithmetic, Lawful, Inverse}
+use Rattle.kinds.specs.Arithmetic.{Lawful, Inverse}
 use Rattle.kinds.specs.Answers.{pick}
 use Rattle.kinds.specs.Rows.{rows, row, zeros, plus, minus, at_most, size}
 

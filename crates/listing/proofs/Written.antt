@@ -1,5 +1,5 @@
 -- The lines of a listing, put together.
-use Rattle.std.proofs.Common.{◌≡◌, ℕ, ◌+◌, ◌-◌, ◌*◌, ◌<◌, ◌≤◌, Bool, true, false, leb, List, [], ◌++◌, length, drop, Some, Ok, Err, Option, Result, sym, ap, ◌∙◌, subst, inl, inr, mul-le-mul, arith, le-leb}
+use Rattle.std.proofs.Common.{◌≡◌, ℕ, ◌*◌, ◌<◌, ◌≤◌, Bool, true, false, leb, List, [], ◌++◌, length, drop, Some, Ok, Err, Option, Result, sym, ap, ◌∙◌, subst, inl, inr, mul-le-mul, arith, le-leb}
 use borrow.Author.Tests.{lt-leb}
 use Rattle.std.proofs.lemmas.Bool.{cond-true, cond-false, true≢false, cases_lt}
 use Rattle.order.specs.declared.counts.Counts.{Counts}

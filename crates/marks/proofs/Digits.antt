@@ -1,6 +1,6 @@
 -- The digits of a number in base two.
-use Rattle.std.proofs.Common.{◌≡◌, ℕ, zero, suc, ◌+◌, ◌-◌, ◌*◌, ◌/◌, ◌%◌, ◌^◌, ◌<◌, ◌≤◌, min, max, Bool, true, false, cond, ◌≢◌, ◌⊎◌, sym, refl, ap, ◌∙◌, subst, ap₂, inl, inr, ⊎_elim, add-zero, add_assoc, add-suc, mul_comm, pow-suc, div-one, arith}
-use native.Mathlib.Nat.{zero-div, zero-mod, div-div-eq-div-mul, pow-succ'}
+use Rattle.std.proofs.Common.{◌≡◌, ℕ, zero, suc, ◌+◌, ◌/◌, ◌%◌, ◌^◌, ◌<◌, ◌≤◌, min, max, sym, refl, ap, ◌∙◌, subst, ap₂, ⊎_elim, pow-suc, div-one, arith}
+use native.Mathlib.Nat.{zero-div, div-div-eq-div-mul, pow-succ'}
 use lib.Bits.{bit_and, bit_or, and_step, or_step, and_mask}
 use lib.Count.{ones, count_trailing_zeros, ones_step, under}
 use Rattle.std.proofs.lemmas.Bool.{cases_eq}

@@ -1,5 +1,5 @@
 -- A set of marks as a set of events, how many it has and which is the lowest.
-use Rattle.std.specs.Prelude.{ℕ, zero, suc, ◌+◌, ◌-◌, ◌/◌, ◌%◌, ◌^◌, Bool, true, false, cond, Some, None, Option, ◌==◌, nat_lt}
+use Rattle.std.specs.Prelude.{ℕ, zero, suc, ◌+◌, ◌-◌, ◌/◌, ◌%◌, ◌^◌, Bool, false, cond, Some, None, Option, ◌==◌, nat_lt}
 use Rattle.marks.specs.declared.set.Marks.{Marks}
 
 -- the digit of n at the place q

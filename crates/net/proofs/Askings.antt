@@ -1,5 +1,5 @@
 -- What a closed net tells is what the definitions say.
-use Rattle.std.proofs.Common.{◌≡◌, ℕ, zero, suc, ◌+◌, ◌*◌, ◌^◌, ◌<◌, ◌≤◌, Bool, true, false, cond, ◌&&◌, ltb, leb, ◌⊎◌, List, [], ◌∷◌, length, take, drop, set, ℤ, is_some, Some, None, Ok, Err, Option, Result, sym, refl, ap, ◌∙◌, subst, ap₂, inl, inr, ⊎_elim, add-one, arith, drop-set-lt}
+use Rattle.std.proofs.Common.{◌≡◌, ℕ, zero, suc, ◌+◌, ◌^◌, ◌<◌, ◌≤◌, Bool, true, false, ◌&&◌, ltb, leb, ◌⊎◌, List, [], ◌∷◌, length, drop, set, ℤ, is_some, Some, None, Ok, Err, Option, Result, sym, refl, ap, ◌∙◌, subst, ap₂, ⊎_elim, add-one, arith, drop-set-lt}
 use Rattle.std.proofs.lemmas.Bool.{cases_Bool, cases_eq, le-leb, lt-leb, cond-true, cond-false, both_ways, false≢true}
 use Rattle.std.specs.List.{slice_get}
 use Rattle.kinds.specs.Answers.{pick, Exact}
@@ -8,9 +8,9 @@ use Rattle.order.specs.declared.event_order.EventOrder.{EventOrder}
 use Rattle.order.specs.Orderings.{events_of}
 use Rattle.table.specs.declared.cell.Cell.{Cell}
 use Rattle.table.specs.Cells.{at_cell, amount_of, bounds}
-use Rattle.walks.specs.Bounds.{InForce, Within, Sized}
+use Rattle.walks.specs.Bounds.{InForce, Within}
 use Rattle.walks.specs.Walks.{Route, Told, Window}
-use Rattle.walks.specs.Least.{lesser, least, distance, contradictory, opposite, window, time}
+use Rattle.walks.specs.Least.{lesser, least, distance, contradictory, opposite, time}
 use Rattle.walks.proofs.Sizes.{small}
 use Rattle.walks.proofs.Distances.{told}
 use Rattle.walks.proofs.Schedules.{times}
@@ -22,7 +22,7 @@ use Rattle.net.specs.Limits.{most_size}
 use Rattle.net.specs.Refusals.{Reason, by}
 use Rattle.net.specs.State.{State, Sound}
 use Rattle.net.specs.Told.{shut}
-use Rattle.net.specs.Asking.{asked, placed, walk_asked, Walked, times_asked, Schedules}
+use Rattle.net.specs.Asking.{asked, placed, times_asked, Schedules}
 use Rattle.net.specs.Times.{column, Earliest}
 use Rattle.net.proofs.Outcomes.{events_yes, events_no}
 

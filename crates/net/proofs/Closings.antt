@@ -1,8 +1,8 @@
 -- What closing a net comes to.
-use Rattle.std.proofs.Common.{◌≡◌, ℕ, ◌-◌, ◌*◌, ◌/◌, ◌<◌, ◌≤◌, Bool, true, false, cond, leb, ◌↔◌, List, [], ◌∷◌, length, take, drop, ℤ, Ok, Err, Option, Result, sym, refl, ap, ◌∙◌, subst, ap₂, ⊎_elim, arith}
+use Rattle.std.proofs.Common.{◌≡◌, ℕ, ◌-◌, ◌*◌, ◌/◌, ◌<◌, ◌≤◌, true, false, cond, leb, ◌↔◌, List, ℤ, Ok, Err, Result, sym, refl, ap, ◌∙◌, subst, ap₂, ⊎_elim, arith}
 use Rattle.std.proofs.lemmas.Bool.{cases_Bool, le-leb, lt-leb, cond-true, cond-false}
 use Rattle.kinds.specs.Arithmetic.{Arithmetic, Lawful, Inverse}
-use Rattle.walks.specs.Bounds.{InForce, Within, Apart, Sized}
+use Rattle.walks.specs.Bounds.{InForce, Within}
 use Rattle.walks.specs.Walks.{Loop, Schedule}
 use Rattle.walks.specs.Least.{contradictory}
 use Rattle.walks.proofs.Distances.{contradiction}
@@ -13,7 +13,7 @@ use Rattle.order.specs.Orderings.{events_of}
 use Rattle.order.specs.Counted.{counts_of}
 use Rattle.table.specs.declared.cell.Cell.{Cell}
 use Rattle.table.specs.Cells.{bounds, neighbours}
-use Rattle.closing.specs.Closed.{Holds, Closes, Ends}
+use Rattle.closing.specs.Closed.{Closes, Ends}
 use Rattle.net.specs.declared.mode.Mode.{Mode}
 use Rattle.net.specs.declared.mode.Mode.TheVariants.{Open, Closed}
 use Rattle.net.specs.declared.net.Net.{Net}

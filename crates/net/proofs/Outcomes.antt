@@ -1,7 +1,7 @@
 -- Each way through a call comes to what the definitions say.
-use Rattle.std.proofs.Common.{◌≡◌, ℕ, zero, suc, ◌+◌, ◌*◌, ◌<◌, ◌≤◌, Bool, true, false, cond, not, ◌&&◌, eqb, ltb, leb, ◌⊎◌, List, [], ◌∷◌, length, set, ℤ, is_some, Some, None, Ok, Err, Option, Result, sym, refl, ap, ◌∙◌, ap₂, inl, inr, ⊎_elim, arith}
+use Rattle.std.proofs.Common.{◌≡◌, ℕ, zero, suc, ◌+◌, ◌*◌, ◌<◌, ◌≤◌, Bool, true, false, not, ◌&&◌, eqb, ltb, leb, ◌⊎◌, List, [], length, set, ℤ, is_some, Some, None, Ok, Err, Option, Result, sym, refl, ap, ◌∙◌, ⊎_elim, arith}
 use Rattle.std.proofs.lemmas.Bool.{both_ways, cases_Bool, eqb-true, and_parts, lt-ltb, le-ltb, le-leb, lt-leb, eq-eqb, ne_eqb, and_from, and_left, and_right, cond-true, cond-false, not_from_true, not_from_false}
-use Rattle.kinds.specs.Arithmetic.{Arithmetic, Amount, AtMost, Lawful}
+use Rattle.kinds.specs.Arithmetic.{Arithmetic, Amount, Lawful}
 use Rattle.table.specs.declared.cell.Cell.{Cell}
 use Rattle.table.specs.Cells.{at_cell, cleared, amount_of, bounds, neighbours}
 use Rattle.order.specs.declared.event_order.EventOrder.{EventOrder}
@@ -12,10 +12,10 @@ use Rattle.order.specs.Orderings as orderings
 use Rattle.order.specs.Ranking.{ranking}
 use Rattle.order.proofs.Orders.{events_count}
 use Rattle.net.specs.declared.mode.Mode.{Mode}
-use Rattle.net.specs.declared.mode.Mode.TheVariants.{Open, Closed}
-use Rattle.net.specs.Limits.{most_events, cells_needed, most_size}
+use Rattle.net.specs.declared.mode.Mode.TheVariants.{Open}
+use Rattle.net.specs.Limits.{most_events, most_size}
 use Rattle.net.specs.Refusals.{Reason, by, answered}
-use Rattle.net.specs.State.{State, Outcome, outcome, refused, accepted, need, unbound, with_bound, lesser, both_events, paired, begun, required, withdrawn, bound_told, made, reordered, lack, ordered_by, arranged, ranked}
+use Rattle.net.specs.State.{State, Outcome, outcome, refused, accepted, need, with_bound, lesser, both_events, paired, begun, required, withdrawn, bound_told, made, reordered, ordered_by, arranged, ranked}
 use Rattle.net.specs.Lacks.{refusal_of}
 use Rattle.net.proofs.BoundsHeld.{bounds_within, bounds_cleared, bounds_put}
 

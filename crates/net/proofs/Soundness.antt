@@ -1,11 +1,11 @@
 -- Each call keeps what every net keeps to.
-use Rattle.std.proofs.Common.{◌≡◌, ℕ, ◌<◌, ◌≤◌, Bool, true, false, cond, not, ◌&&◌, eqb, ltb, leb, ◌⊎◌, List, [], ℤ, is_some, Some, None, Ok, Err, Option, Result, sym, refl, ap, ◌∙◌, subst, inl, inr, ⊎_elim, arith}
+use Rattle.std.proofs.Common.{◌≡◌, ℕ, ◌<◌, ◌≤◌, Bool, true, false, not, ◌&&◌, eqb, ltb, leb, List, [], ℤ, is_some, Some, None, Ok, Err, Option, Result, sym, refl, ◌∙◌, subst, ⊎_elim, arith}
 use Rattle.std.proofs.lemmas.Bool.{cases_Bool, and_parts, ltb-true, leb-true, eqb-true, eqb-false, not-true, cond-true, cond-false, cond_both}
 use Rattle.kinds.specs.Arithmetic.{Arithmetic, Amount}
 use Rattle.net.specs.declared.mode.Mode.{Mode}
 use Rattle.net.specs.declared.mode.Mode.TheVariants.{Open}
 use Rattle.net.specs.Limits.{most_events, cells_needed, most_size}
-use Rattle.net.specs.State.{State, Outcome, refused, need, accepted, unbound, fresh, rebound, with_bound, lesser, both_events, begun, required, withdrawn, made, ordered_by, arranged, ranked, Sound}
+use Rattle.net.specs.State.{State, Outcome, need, accepted, unbound, fresh, rebound, with_bound, lesser, both_events, begun, required, withdrawn, made, ordered_by, arranged, ranked, Sound}
 use Rattle.order.specs.declared.event_order.Misordered.{Misordered}
 use Rattle.order.specs.Orderings as orderings
 

@@ -1,5 +1,5 @@
 -- What close answers, makes of the state, and writes.
-use Rattle.std.specs.Prelude.{◌≡◌, ℕ, ◌≤◌, Bool, true, false, cond, List, [], ◌∷◌, take, drop, ℤ, Ok, Err, Option, Result, nat_le}
+use Rattle.std.specs.Prelude.{◌≡◌, ℕ, ◌≤◌, cond, List, [], ◌∷◌, take, drop, ℤ, Ok, Err, Option, Result, nat_le}
 use Rattle.kinds.specs.Arithmetic.{Arithmetic}
 use Rattle.walks.specs.Bounds.{InForce}
 use Rattle.walks.specs.Walks.{Loop}

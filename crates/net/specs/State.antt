@@ -1,5 +1,5 @@
 -- The state of a net, and what each call answers and makes of it.
-use Rattle.std.specs.Prelude.{◌≡◌, ℕ, ◌<◌, ◌≤◌, Bool, true, false, cond, not, ◌&&◌, List, [], length, ℤ, is_some, Some, None, Ok, Err, Option, Result, ◌==◌, nat_le, nat_lt}
+use Rattle.std.specs.Prelude.{◌≡◌, ℕ, ◌<◌, ◌≤◌, Bool, cond, not, ◌&&◌, List, [], length, ℤ, is_some, Some, None, Ok, Err, Option, Result, ◌==◌, nat_le, nat_lt}
 use Rattle.kinds.specs.Arithmetic.{Arithmetic, Amount}
 use Rattle.table.specs.declared.cell.Cell.{Cell}
 use Rattle.table.specs.Cells.{bounds, neighbours}
@@ -9,7 +9,7 @@ use Rattle.order.specs.Orderings.{events_of, upto}
 use Rattle.order.specs.Orderings as orderings
 use Rattle.order.specs.Ranking.{ranking}
 use Rattle.net.specs.declared.mode.Mode.{Mode}
-use Rattle.net.specs.declared.mode.Mode.TheVariants.{Open, Closed}
+use Rattle.net.specs.declared.mode.Mode.TheVariants.{Open}
 use Rattle.net.specs.declared.net.Net.{Net}
 use Rattle.net.specs.Limits.{most_events, cells_needed, most_size}
 use Rattle.net.specs.Refusals.{Reason, by}

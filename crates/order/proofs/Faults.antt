@@ -1,9 +1,9 @@
 -- The first event at fault, met by going along the list.
-use Rattle.std.proofs.Common.{◌≡◌, ℕ, zero, suc, ◌+◌, ◌-◌, ◌<◌, ◌≤◌, Bool, true, false, cond, ◌&&◌, ◌||◌, eqb, ltb, leb, List, [], ◌∷◌, length, get_or, Some, None, Ok, Err, Option, Result, sym, refl, ap, ◌∙◌, ap₂, ⊎_elim, arith}
+use Rattle.std.proofs.Common.{◌≡◌, ℕ, zero, suc, ◌-◌, ◌<◌, ◌≤◌, true, false, ◌&&◌, eqb, ltb, leb, List, [], ◌∷◌, length, get_or, Some, None, Err, Option, sym, refl, ap, ◌∙◌, ⊎_elim, arith}
 use Rattle.std.proofs.lemmas.Bool.{cases_eq, cond-true, cond-false, eq-eqb, ne_eqb, lt-ltb, le-ltb, le-leb, lt-leb, and_from, and_left, and_right, or_from, or_left, or_right}
 use Rattle.order.specs.declared.event_order.Misordered.{Misordered}
 use Rattle.order.specs.declared.event_order.Misordered.TheVariants.{Count, Outside, Again}
-use Rattle.order.specs.Orderings.{stretch, among, first_fault, misorder, arranged, unless}
+use Rattle.order.specs.Orderings.{stretch, among, first_fault, arranged, unless}
 use Rattle.order.proofs.Stretches.{stretch_whole}
 
 -- what stands before the place k, the latest first

@@ -1,11 +1,10 @@
 -- Pairs of members that are not neighbours, counted by visiting the members from the lowest up.
-use Rattle.std.proofs.Common.{◌≡◌, ℕ, zero, suc, ◌+◌, ◌-◌, ◌*◌, ◌<◌, ◌≤◌, Bool, true, false, cond, not, ◌&&◌, ◌||◌, eqb, ◌⊎◌, List, length, sym, refl, ap, ◌∙◌, subst, ap₂, ⊎_elim, add-zero, arith}
+use Rattle.std.proofs.Common.{◌≡◌, ℕ, zero, suc, ◌+◌, ◌*◌, ◌<◌, ◌≤◌, Bool, true, false, not, ◌&&◌, ◌||◌, eqb, List, sym, refl, ap, ◌∙◌, ap₂, ⊎_elim, add-zero, arith}
 use mathlib.Core.Path.{fun_ext}
-use mathlib.Core.Bool.{or-false}
-use Rattle.std.proofs.lemmas.Bool.{cases_eq, cases_lt, cases_Bool, eq-eqb, ne_eqb, eqb-true, both_ways, and_parts, or_cases, or_right, not-true}
+use Rattle.std.proofs.lemmas.Bool.{cases_eq, cases_lt, cases_Bool, eq-eqb, eqb-true, both_ways, and_parts, or_cases, or_right, not-true}
 use Rattle.marks.specs.declared.set.Marks.{Marks}
 use Rattle.marks.specs.Sets.{has, how_many}
-use Rattle.order.specs.Elimination.{Graph, pairs, not_joined}
+use Rattle.order.specs.Elimination.{pairs, not_joined}
 use Rattle.order.specs.Neighbours.{graph_of}
 use Rattle.order.proofs.Counting.{count_agree, count_none, count_up, count_le, count_without}
 use Rattle.order.proofs.Eliminations.{keep}

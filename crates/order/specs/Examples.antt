@@ -1,6 +1,5 @@
 -- Small graphs and lists, and what the definitions make of them.
-use Rattle.std.specs.Prelude.{◌≡◌, ℕ, ◌&&◌, ◌||◌, List, [], ◌∷◌, Ok, Err, Result, ◌==◌}
-use Rattle.order.specs.declared.event_order.Misordered.{Misordered}
+use Rattle.std.specs.Prelude.{◌≡◌, ℕ, ◌&&◌, ◌||◌, List, [], ◌∷◌, Ok, Err, ◌==◌}
 use Rattle.order.specs.declared.event_order.Misordered.TheVariants.{Count, Outside, Again}
 use Rattle.order.specs.declared.counts.Counts.{Counts}
 use Rattle.order.specs.Orderings.{arranged}

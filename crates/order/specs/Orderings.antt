@@ -1,5 +1,5 @@
 -- An ordering as the list of its events from rank 1 to rank n, and which lists are one.
-use Rattle.std.specs.Prelude.{ℕ, zero, suc, ◌-◌, Bool, true, false, cond, ◌&&◌, ◌||◌, List, [], ◌∷◌, length, Some, None, Ok, Err, Option, Result, ◌==◌, nat_le, nat_lt, slice_index}
+use Rattle.std.specs.Prelude.{ℕ, zero, suc, ◌-◌, Bool, false, cond, ◌&&◌, ◌||◌, List, [], ◌∷◌, length, Some, None, Ok, Err, Option, Result, ◌==◌, nat_le, nat_lt, slice_index}
 use Rattle.order.specs.declared.event_order.EventOrder.{EventOrder}
 use Rattle.order.specs.declared.event_order.Misordered.{Misordered}
 use Rattle.order.specs.declared.event_order.Misordered.TheVariants.{Count, Outside, Again}

@@ -1,7 +1,7 @@
 -- What a body says, by its tag and its fields.
-use Rattle.std.proofs.Common.{◌≡◌, ℕ, ◌+◌, ◌<◌, ◌≤◌, Bool, true, false, cond, eqb, List, [], ◌∷◌, length, get_or, drop, ℤ, Some, None, Option, sym, refl, ap, ◌∙◌, arith, length-drop}
+use Rattle.std.proofs.Common.{◌≡◌, ℕ, ◌+◌, ◌<◌, ◌≤◌, true, false, eqb, List, [], ◌∷◌, length, get_or, drop, ℤ, Some, None, sym, refl, ap, ◌∙◌, arith, length-drop}
 use Rattle.std.proofs.lemmas.Bool.{eq-eqb, ne_eqb, cond-true, cond-false}
-use Rattle.sheet.specs.Records.{Coding, Said, bound, ordering, said, said_by, events_said, bound_said}
+use Rattle.sheet.specs.Records.{Coding, bound, ordering, said, said_by, events_said, bound_said}
 
 pub tagged : (K : Coding) (xs : List ℕ) → 0 < length xs → said K xs ≡ said_by K (get_or xs 0 0) (drop 1 xs)
 unfolding said

@@ -6,7 +6,7 @@ use Rattle.order.specs.Orderings as orderings
 use Rattle.net.specs.Limits.{most_events, cells_needed, most_size}
 use Rattle.net.specs.Refusals.{Reason, by}
 use Rattle.net.specs.State.{State, Outcome, need, accepted, fresh, rebound, lesser, begun, required, arranged, ordered_by, both_events}
-use Rattle.sheet.specs.Records.{Asked, begin, require, arrange}
+use Rattle.sheet.specs.Records.{Asked}
 use Rattle.sheet.specs.Sheets.{performed}
 use Rattle.sheet.specs.Outlines.{Foreseen, may_begin, may_require, may_arrange, unless_lacking}
 

@@ -1,9 +1,9 @@
 -- What stands at an offset of a sheet.
-use Rattle.std.proofs.Common.{◌≡◌, ℕ, ◌+◌, ◌-◌, ◌*◌, ◌<◌, ◌≤◌, Bool, true, false, cond, ◌&&◌, eqb, ltb, leb, List, [], ◌∷◌, length, get_or, take, drop, sym, refl, ap, ◌∙◌, arith}
+use Rattle.std.proofs.Common.{◌≡◌, ℕ, ◌+◌, ◌-◌, ◌*◌, ◌<◌, ◌≤◌, false, leb, List, length, get_or, take, drop, arith}
 use Rattle.std.proofs.lemmas.Bool.{lt-ltb, le-ltb, le-leb, lt-leb, eq-eqb, ne_eqb, and_from, and_left, and_right}
-use Rattle.sheet.specs.Records.{length_at, whole, body_at, after_record}
+use Rattle.sheet.specs.Records.{length_at, whole, after_record}
 use Rattle.sheet.specs.Faults.{in_bytes, in_records}
-use Rattle.sheet.specs.Sheets.{Next, ended, found, faulty, next_at}
+use Rattle.sheet.specs.Sheets.{ended, found, faulty, next_at}
 
 module _ (xs : List ℕ) (at : ℕ) where
   pub at_missing : length xs ≤ at → at ≡ 1 → faulty (in_records 24 at) ≡ next_at xs at

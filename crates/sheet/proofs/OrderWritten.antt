@@ -1,7 +1,7 @@
 -- The ordering laid down byte by byte.
-use Rattle.std.proofs.Common.{◌≡◌, ℕ, zero, suc, ◌+◌, ◌-◌, ◌/◌, ◌%◌, ◌<◌, ◌≤◌, Bool, true, false, cond, ◌&&◌, ltb, leb, List, [], ◌∷◌, ◌++◌, length, get_or, take, drop, set, Some, None, Ok, Option, sym, refl, ap, ◌∙◌, subst, add-one, arith, drop-cons}
+use Rattle.std.proofs.Common.{◌≡◌, ℕ, zero, suc, ◌+◌, ◌-◌, ◌/◌, ◌%◌, ◌<◌, ◌≤◌, ◌&&◌, ltb, leb, List, [], ◌∷◌, ◌++◌, length, get_or, take, drop, set, Some, None, Ok, sym, ap, ◌∙◌, subst, add-one, arith, drop-cons}
 use Rattle.std.proofs.lemmas.Bool.{cond-true, and_from, lt-ltb, le-leb}
-use Rattle.std.proofs.lemmas.List.{append_assoc, length-append, length-drop, length-take, take_all, drop_at, drop-drop, take_more, set-append_right, take-append-drop}
+use Rattle.std.proofs.lemmas.List.{append_assoc, length-append, length-take, take_all, drop-drop, take_more, set-append_right, take-append-drop}
 use Rattle.order.specs.declared.event_order.EventOrder.{EventOrder}
 use Rattle.order.specs.Orderings.{events_of, event_of_rank, arranged}
 use Rattle.order.proofs.Orders.{events_count, events_within, events_differ}

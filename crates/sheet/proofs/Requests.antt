@@ -1,14 +1,13 @@
 -- What a request makes of a net's state.
-use Rattle.std.proofs.Common.{◌≡◌, ℕ, ◌<◌, ◌≤◌, Bool, true, false, cond, not, ◌&&◌, eqb, ltb, leb, ◌⊎◌, List, [], ◌∷◌, ℤ, Some, None, Ok, Err, Option, Result, sym, refl, ap, ◌∙◌, subst, inl, inr, arith}
-use Rattle.std.proofs.lemmas.Bool.{cases_Bool, ne_eqb, eqb-false, ltb-true, and_parts}
+use Rattle.std.proofs.Common.{◌≡◌, ℕ, ◌≤◌, Bool, true, false, cond, not, ◌&&◌, eqb, ltb, leb, List, ℤ, Some, None, Ok, Err, Option, Result, sym, refl, ap, ◌∙◌, subst, inl, inr, arith}
+use Rattle.std.proofs.lemmas.Bool.{cases_Bool, eqb-false, ltb-true, and_parts}
 use Rattle.kinds.specs.Arithmetic.{Arithmetic}
 use Rattle.order.specs.declared.event_order.Misordered.{Misordered}
 use Rattle.order.specs.Orderings as orderings
 use Rattle.net.specs.Refusals.{Reason}
-use Rattle.net.specs.State.{State, Outcome, need, refused, accepted, fresh, rebound, reordered, with_bound, lesser, begun, required, arranged, ordered_by, both_events}
+use Rattle.net.specs.State.{State, Outcome, need, accepted, fresh, rebound, reordered, lesser, begun, required, arranged, ordered_by, both_events}
 use Rattle.net.specs.Limits.{most_events, cells_needed, most_size}
 use Rattle.sheet.specs.Records.{Coding, Said, events, bound, ordering, begin, said, placed, asked}
-use Rattle.sheet.specs.Faults.{Fault}
 use Rattle.sheet.specs.Sheets.{entry, after_call, located, entered}
 use Rattle.sheet.specs.Codes.{Codes, Coded, Full, EntryCodes}
 

@@ -1,16 +1,15 @@
 -- What was written reads back to the same state.
-use Rattle.std.proofs.Common.{◌≡◌, ℕ, zero, suc, ◌+◌, ◌-◌, ◌*◌, ◌/◌, ◌%◌, ◌<◌, ◌≤◌, Bool, true, false, cond, not, ◌&&◌, ◌||◌, eqb, ltb, leb, ◌⊎◌, List, [], ◌∷◌, ◌++◌, length, get_or, take, drop, ℤ, Some, None, Ok, Err, Option, Result, sym, refl, ap, ◌∙◌, subst, inl, inr, add-one, arith}
+use Rattle.std.proofs.Common.{◌≡◌, ℕ, zero, suc, ◌+◌, ◌-◌, ◌*◌, ◌/◌, ◌%◌, ◌<◌, ◌≤◌, true, cond, not, ◌&&◌, ◌||◌, eqb, ltb, leb, ◌⊎◌, List, [], ◌∷◌, ◌++◌, length, get_or, take, drop, ℤ, Some, None, Ok, Err, Option, sym, refl, ap, ◌∙◌, subst, inl, inr, add-one, arith}
 use mathlib.Core.Path.{fun_ext}
-use Rattle.std.proofs.lemmas.Bool.{cases_Bool, cases_lt, cases_eq, cond-true, cond-false, lt-ltb, le-ltb, le-leb, eq-eqb, ne_eqb, and_from, and_left, and_right, or_left, or_right, or_from, not_from_false}
+use Rattle.std.proofs.lemmas.Bool.{cases_lt, cases_eq, cond-true, cond-false, lt-ltb, le-ltb, le-leb, eq-eqb, ne_eqb, and_from, and_left, and_right, or_left, or_right, or_from, not_from_false}
 use Rattle.std.proofs.lemmas.List.{append-nil, append_assoc, length-append, drop_at, drop-drop, take_at, get_or-append_right}
 use Rattle.kinds.specs.Arithmetic.{Arithmetic}
 use Rattle.order.specs.Orderings as orderings
 use Rattle.net.specs.declared.mode.Mode.TheVariants.{Open}
 use Rattle.net.specs.Limits.{most_events, cells_needed, most_size}
-use Rattle.net.specs.State.{State, Outcome, need, accepted, fresh, rebound, reordered, with_bound, lesser, begun, required, arranged, ordered_by, both_events, Sound}
-use Rattle.sheet.specs.Records.{Coding, Said, events, bound, ordering, Asked, begin, require, arrange, said, said_by, placed, asked, start}
-use Rattle.sheet.specs.Faults.{Fault}
-use Rattle.sheet.specs.Sheets.{Next, found, next_at, Entry, asks, entry, entries_from, entries_of, after_call, performed, located, entered, run, concluded}
+use Rattle.net.specs.State.{State, need, accepted, fresh, rebound, reordered, with_bound, lesser, begun, required, arranged, ordered_by, Sound}
+use Rattle.sheet.specs.Records.{Coding, bound, ordering, begin, require, arrange, said, placed, asked}
+use Rattle.sheet.specs.Sheets.{found, next_at, entry, entries_from, entries_of, after_call, located, entered, run, concluded}
 use Rattle.sheet.specs.Codes.{Codes, Coded}
 use Rattle.sheet.specs.Written.{length_bytes, events_record, bound_record, ordering_record, pair_record, row_records, all_records, written, restored}
 use Rattle.sheet.specs.RoundTrips.{ReadsBack}

@@ -1,5 +1,5 @@
 -- A whole sheet laid down.
-use Rattle.std.proofs.Common.{◌≡◌, ℕ, zero, suc, ◌+◌, ◌-◌, ◌/◌, ◌%◌, ◌<◌, ◌≤◌, Bool, true, false, cond, ◌&&◌, eqb, ltb, leb, ◌⊎◌, List, [], ◌∷◌, ◌++◌, length, get_or, take, drop, set, ℤ, Some, None, Ok, Err, Option, Result, sym, refl, ap, ◌∙◌, subst, inl, inr, arith}
+use Rattle.std.proofs.Common.{◌≡◌, ℕ, ◌+◌, ◌-◌, ◌<◌, ◌≤◌, ◌&&◌, eqb, ltb, leb, List, [], ◌∷◌, ◌++◌, length, drop, set, ℤ, Some, None, Ok, Err, sym, refl, ap, ◌∙◌, inl, inr, arith}
 use borrow.Rule.Slice.PartMut.{put_mid}
 use Rattle.std.specs.List.{between}
 use Rattle.std.proofs.lemmas.Bool.{cases_Bool, and_parts, ltb-true, cond-true, cond-false, eq-eqb, ne_eqb, le-leb, lt-leb}
@@ -7,10 +7,10 @@ use Rattle.std.proofs.lemmas.List.{append_assoc, length-append}
 use Rattle.kinds.specs.Answers.{pick}
 use Rattle.table.specs.declared.cell.Cell.{Cell}
 use Rattle.table.specs.Cells.{bounds, amount_of, in_force, at_cell}
-use Rattle.net.specs.Refusals.{Reason, by}
+use Rattle.net.specs.Refusals.{by}
 use Rattle.net.specs.State.{State}
 use Rattle.sheet.specs.Records.{Coding}
-use Rattle.sheet.specs.Written.{events_record, all_records, all_length, ordering_record, written, sheet_length, Writing, writing, write_sheet}
+use Rattle.sheet.specs.Written.{events_record, all_records, all_length, ordering_record, written, sheet_length, writing, write_sheet}
 use Rattle.sheet.proofs.Places.{part_more}
 use Rattle.sheet.proofs.OrderWritten.{set_next}
 

@@ -1,5 +1,5 @@
 -- What the two passes of reading answer.
-use Rattle.std.specs.Prelude.{◌≡◌, ℕ, Bool, cond, not, ◌&&◌, List, ℤ, Ok, Err, Result, ◌==◌, nat_le, nat_lt}
+use Rattle.std.specs.Prelude.{◌≡◌, ℕ, cond, not, ◌&&◌, List, ℤ, Ok, Err, Result, ◌==◌, nat_le, nat_lt}
 use Rattle.kinds.specs.Arithmetic.{Arithmetic}
 use Rattle.order.specs.declared.event_order.Misordered.{Misordered}
 use Rattle.order.specs.Orderings.{arranged}

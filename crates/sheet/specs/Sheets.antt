@@ -1,5 +1,5 @@
 -- What reading a sheet comes to: one answer for every string of bytes, and the state of the net after it.
-use Rattle.std.specs.Prelude.{ℕ, zero, suc, ◌+◌, Bool, cond, List, [], ◌∷◌, length, Ok, Err, Result, ◌==◌, nat_lt, slice_index}
+use Rattle.std.specs.Prelude.{ℕ, zero, suc, cond, List, [], ◌∷◌, length, Ok, Err, Result, ◌==◌, nat_lt, slice_index}
 use Rattle.kinds.specs.Arithmetic.{Arithmetic}
 use Rattle.net.specs.Refusals.{Reason}
 use Rattle.net.specs.State.{State, Outcome, begun, required, arranged}

@@ -1,5 +1,5 @@
 -- The code's answers, in the words of the definitions: what each fault says, and what forms and calls mean.
-use Rattle.std.specs.Prelude.{◌≡◌, ℕ, List, [], ◌∷◌, length, ℤ, Some, None, Ok, Err, Option, Result}
+use Rattle.std.specs.Prelude.{ℕ, List, ℤ, Some, None, Ok, Err, Option, Result}
 use Rattle.kinds.specs.Arithmetic.{Arithmetic}
 use Rattle.net.specs.Refusals.{reason}
 use Rattle.sheet.specs.declared.fault.RecordFault.{RecordFault}

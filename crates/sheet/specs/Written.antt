@@ -1,5 +1,5 @@
 -- A net as the bytes of a sheet.
-use Rattle.std.specs.Prelude.{ℕ, zero, suc, ◌+◌, ◌/◌, ◌%◌, Bool, cond, List, [], ◌∷◌, ◌++◌, length, drop, ℤ, Some, None, Ok, Err, Option, Result, ◌==◌, nat_le}
+use Rattle.std.specs.Prelude.{ℕ, zero, suc, ◌+◌, ◌/◌, ◌%◌, cond, List, [], ◌∷◌, ◌++◌, length, drop, ℤ, Some, None, Ok, Err, Option, Result, ◌==◌, nat_le}
 use Rattle.net.specs.declared.mode.Mode.TheVariants.{Open}
 use Rattle.net.specs.Refusals.{Reason, by}
 use Rattle.net.specs.State.{State}

@@ -1,8 +1,6 @@
 -- One turn of the sweep.
-use Rattle.std.proofs.Common.{◌≡◌, ℕ, suc, ◌+◌, ◌*◌, ◌^◌, ◌<◌, ◌≤◌, true, false, not, ◌&&◌, eqb, ◌≢◌, ◌⊎◌, List, length, get_or, set, ℤ, Some, None, Option, sym, refl, ap, ◌∙◌, subst, inl, inr, ⊎_elim, arith, get_or-set_other, get_or-set_same}
-use native.Mathlib.Decide.{ℕ_discrete, dec_lt}
+use Rattle.std.proofs.Common.{◌≡◌, ℕ, ◌+◌, ◌^◌, ◌<◌, ◌≤◌, true, ◌≢◌, ◌⊎◌, List, get_or, ℤ, Some, None, Option, sym, refl, ap, ◌∙◌, subst, inl, inr, arith}
 use Rattle.std.proofs.lemmas.Bool.{cases_eq, cases_Bool}
-use lib.Arith.{digits_lt}
 use Rattle.kinds.specs.Arithmetic.{Arithmetic, Amount, AtMost, Lawful}
 use Rattle.elimination.proofs.Sweep.{up_to}
 use Rattle.table.specs.declared.cell.Cell.{Cell}
@@ -12,7 +10,7 @@ use Rattle.sweeper.specs.Sums.{Leasts, least_of, leasts, Parts}
 use Rattle.marks.specs.declared.set.Marks.{Marks}
 use Rattle.marks.specs.Sets.{has}
 use Rattle.eliminator.specs.Steps.{Shorter, NoShorter, Lower, Near}
-use Rattle.sweeper.specs.Best.{Best, BestInto, BestOut, SameWork, Settles, Paired, Into, Out, Done}
+use Rattle.sweeper.specs.Best.{Best, SameWork, Settles, Paired, Into, Out, Done}
 use Rattle.eliminator.specs.Members.{Among, Lists}
 
 abbrev pub made : {K : Type 0} → Option K → Least K

@@ -1,19 +1,17 @@
 -- What the sweep comes to.
-use Rattle.std.proofs.Common.{◌≡◌, ℕ, zero, suc, ◌+◌, ◌*◌, ◌^◌, ◌<◌, ◌≤◌, max, ◌≢◌, ◌⊎◌, List, ℤ, Some, None, Option, sym, refl, ap, ◌∙◌, subst, inl, inr, ⊎_elim, arith}
+use Rattle.std.proofs.Common.{◌≡◌, ℕ, zero, suc, ◌+◌, ◌*◌, ◌^◌, ◌<◌, ◌≤◌, ◌≢◌, ◌⊎◌, List, ℤ, Some, None, Option, sym, refl, ap, ◌∙◌, subst, inl, inr, arith}
 use native.Mathlib.Decide.{dec_lt}
 use Rattle.kinds.specs.Arithmetic.{Arithmetic, Amount, AtMost, Lawful}
-use Rattle.elimination.specs.Walks.{Kept, Swept, Sweeps}
+use Rattle.elimination.specs.Walks.{Swept, Sweeps}
 use Rattle.elimination.proofs.Sweep.{swept_next}
 use Rattle.elimination.proofs.Sized.{swept_small, into_small, out_small}
 use Rattle.elimination.specs.Held.{Held, nil, plus, le, size}
 use Rattle.elimination.proofs.Laws.{same, amounts, measured}
-use Rattle.table.specs.declared.cell.Cell.{Cell}
 use Rattle.eliminator.specs.Views.{Grid}
 use Rattle.eliminator.specs.State.{Forced, Works, Ready, Stage}
 use Rattle.eliminator.proofs.Stages.{net, single}
-use Rattle.sweeper.specs.declared.least.Least.{Least}
-use Rattle.sweeper.specs.Sums.{Leasts, Sums, Parts, Leads, Led}
-use Rattle.sweeper.specs.Best.{Best, Into, Out, Done, Table, Summed}
+use Rattle.sweeper.specs.Sums.{Leasts, Sums, Led}
+use Rattle.sweeper.specs.Best.{Into, Out, Done, Table, Summed}
 
 apart? : (i j : ℕ) → i ≢ j → (i < j) ⊎ (j < i)
 apart? i j d = elim (dec_lt i j) [ yes h ↦ inl h | no h ↦ inr (omega arith) ]

@@ -1,11 +1,10 @@
 -- The sweep.
-use Rattle.std.specs.Prelude.{◌≡◌, ℕ, suc, ◌+◌, ◌*◌, ◌^◌, ◌<◌, ◌≤◌, ◌≢◌, ◌⊎◌, List, [], ◌∷◌, length, get_or, ℤ, Some, None, Option}
-use Rattle.kinds.specs.Arithmetic.{Arithmetic, Amount, AtMost, Lawful}
+use Rattle.std.specs.Prelude.{◌≡◌, ℕ, ◌+◌, ◌^◌, ◌<◌, ◌≤◌, ◌≢◌, ◌⊎◌, List, ℤ, Some, None, Option}
+use Rattle.kinds.specs.Arithmetic.{Arithmetic, AtMost, Lawful}
 use Rattle.elimination.specs.Held.{Held, nil, plus, le}
 use Rattle.elimination.specs.Walks as theory
-use Rattle.table.specs.declared.cell.Cell.{Cell}
 use Rattle.eliminator.specs.Views.{Grid}
-use Rattle.eliminator.specs.State.{Forced, Works, Ready, Stage}
+use Rattle.eliminator.specs.State.{Forced, Ready, Stage}
 use Rattle.sweeper.specs.declared.least.Least.{Least}
 use Rattle.sweeper.specs.Sums.{Leasts, least_of, leasts, Sums, Parts, Led}
 

@@ -1,9 +1,8 @@
 -- The least sums, and how each was put together.
-use Rattle.std.specs.Prelude.{◌≡◌, ℕ, suc, ◌+◌, ◌*◌, ◌^◌, ◌<◌, ◌≤◌, max, ◌≢◌, ◌⊎◌, List, [], ◌∷◌, length, get_or, take, ℤ, Some, None, Option}
-use Rattle.kinds.specs.Arithmetic.{Arithmetic, Amount, AtMost, Lawful}
+use Rattle.std.specs.Prelude.{◌≡◌, ℕ, ◌<◌, max, ◌≢◌, List, ℤ, Some, None, Option}
+use Rattle.kinds.specs.Arithmetic.{Arithmetic}
 use Rattle.table.specs.declared.cell.Cell.{Cell}
 use Rattle.eliminator.specs.Views.{Grid}
-use Rattle.eliminator.specs.State.{Forced, Works, Traced}
 use Rattle.sweeper.specs.declared.least.Least.{Least}
 
 -- a least sum for each two ranks

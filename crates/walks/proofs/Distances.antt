@@ -1,16 +1,16 @@
 -- A contradiction is a loop under zero; without one, the computed distance is the least sum.
-use Rattle.std.proofs.Common.{◌≡◌, ℕ, zero, suc, ◌<◌, ◌≤◌, Bool, true, false, not, ◌≢◌, ◌⊎◌, ◌↔◌, List, [], ◌∷◌, length, ℤ, Some, None, Option, sym, refl, ap, ◌∙◌, subst, inl, inr, le_of_suc-le-suc, eq-or-lt_of_le, arith}
-use Rattle.kinds.specs.Arithmetic.{Arithmetic, Amount, AtMost, Lawful}
+use Rattle.std.proofs.Common.{◌≡◌, ℕ, zero, suc, ◌<◌, Bool, true, false, not, ◌⊎◌, ◌↔◌, List, ◌∷◌, ℤ, Some, None, Option, sym, refl, ap, subst, inl, inr, le_of_suc-le-suc, eq-or-lt_of_le, arith}
+use Rattle.kinds.specs.Arithmetic.{Arithmetic, AtMost, Lawful}
 use Rattle.kinds.specs.Answers.{pick}
 use Rattle.walks.specs.Bounds.{Bounds, InForce, Within}
 use Rattle.walks.specs.Least.{some_below, best, distance, negative, contradictory}
-use Rattle.walks.specs.Walks.{Walk, UnderZero, Loop, Told, Member}
+use Rattle.walks.specs.Walks.{Walk, UnderZero, Loop, Told}
 use Rattle.walks.specs.Walks.Walk.{alone, on}
 use Rattle.walks.specs.Claims.{ContradictionIsLoop, DistanceIsLeast}
 use Rattle.walks.proofs.Order.{decide, clash}
 use Rattle.walks.proofs.Names.{pigeons}
 use Rattle.walks.proofs.Least.{sound, complete, walk_amount, best_fit}
-use Rattle.walks.proofs.Cuts.{Short, Looped, reduce, loop_in, names_within}
+use Rattle.walks.proofs.Cuts.{Short, reduce, loop_in, names_within}
 
 pick_or : (a b : Bool) → pick a true b ≡ true → (a ≡ true) ⊎ (b ≡ true)
 pick_or true b e = inl refl

@@ -1,5 +1,5 @@
 -- What the computed least sum is: the sum of a walk of at most m bounds, and at most that of each.
-use Rattle.std.proofs.Common.{◌≡◌, ℕ, zero, suc, ◌<◌, ◌≤◌, Bool, true, false, not, T, eqb, ◌≢◌, ◌⊎◌, List, [], ◌∷◌, length, ℤ, Some, None, Option, sym, refl, ap, ◌∙◌, subst, inl, inr, le_of_suc-le-suc, eq-or-lt_of_le, arith, eqb→eq}
+use Rattle.std.proofs.Common.{◌≡◌, ℕ, zero, suc, ◌<◌, ◌≤◌, Bool, true, false, T, eqb, ◌⊎◌, List, [], ◌∷◌, length, ℤ, Some, None, Option, refl, subst, inl, inr, le_of_suc-le-suc, eq-or-lt_of_le, arith, eqb→eq}
 use lib.Dec.{eqb_refl}
 use Rattle.kinds.specs.Arithmetic.{Arithmetic, Amount, AtMost, Lawful}
 use Rattle.kinds.specs.Answers.{pick}
@@ -7,7 +7,7 @@ use Rattle.walks.specs.Bounds.{Bounds, InForce, Within}
 use Rattle.walks.specs.Least.{added, lesser, least, stay, best}
 use Rattle.walks.specs.Walks.{Walk}
 use Rattle.walks.specs.Walks.Walk.{alone, on}
-use Rattle.walks.proofs.Order.{decide, clash, other}
+use Rattle.walks.proofs.Order.{clash, other}
 
 some_none : {X : Type 0} (a : List ℤ) → ◌≡◌ {A = Option (List ℤ)} None (Some a) → X
 some_none a e = let z : ◌≡◌ {A = ℕ} 0 1 = cc in absurd (omega arith)

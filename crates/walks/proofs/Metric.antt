@@ -1,11 +1,11 @@
 -- A distance to itself is zero, and distances keep the triangle.
-use Rattle.std.proofs.Common.{◌≡◌, ℕ, ◌<◌, ◌≤◌, Bool, true, false, ◌⊎◌, List, [], ◌∷◌, ◌++◌, length, ℤ, Some, None, Option, sym, refl, ap, ◌∙◌, subst, inl, inr, arith}
+use Rattle.std.proofs.Common.{◌≡◌, ℕ, false, List, [], ◌∷◌, ◌++◌, ℤ, Some, sym, ap, ◌∙◌, inl, inr}
 use Rattle.kinds.specs.Arithmetic.{Arithmetic, Amount, AtMost, Lawful}
 use Rattle.walks.specs.Bounds.{Bounds, InForce, Within}
-use Rattle.walks.specs.Least.{best, distance, contradictory}
+use Rattle.walks.specs.Least.{distance, contradictory}
 use Rattle.walks.specs.Walks.{Walk}
 use Rattle.walks.specs.Walks.Walk.{alone, on}
-use Rattle.walks.specs.Claims.{Metric, DistancesAreMetric}
+use Rattle.walks.specs.Claims.{DistancesAreMetric}
 use Rattle.walks.proofs.Order.{decide, clash, unit_right}
 use Rattle.walks.proofs.Least.{sound, walk_amount, best_fit}
 use Rattle.walks.proofs.Cuts.{loop_in}

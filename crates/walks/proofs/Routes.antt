@@ -1,9 +1,8 @@
 -- A distance is the sum of a walk that names no event twice.
-use Rattle.std.proofs.Common.{◌≡◌, ℕ, ◌<◌, ◌≤◌, Bool, true, false, ◌⊎◌, List, [], ◌∷◌, ◌++◌, length, ℤ, Some, sym, refl, ap, ◌∙◌, subst, inl, inr}
-use Rattle.kinds.specs.Arithmetic.{Arithmetic, Amount, AtMost, Lawful}
+use Rattle.std.proofs.Common.{◌≡◌, ℕ, ◌<◌, ◌⊎◌, List, [], ◌∷◌, ◌++◌, ℤ, sym, refl, subst, inl, inr}
+use Rattle.kinds.specs.Arithmetic.{Arithmetic, Lawful}
 use Rattle.walks.specs.Bounds.{Bounds, InForce, Within}
-use Rattle.walks.specs.Least.{distance, contradictory}
-use Rattle.walks.specs.Walks.{Member, Distinct, Walk, Route}
+use Rattle.walks.specs.Walks.{Member, Distinct, Walk}
 use Rattle.walks.specs.Walks.Walk.{alone, on}
 use Rattle.walks.specs.Claims.{DistanceHasRoute}
 use Rattle.walks.proofs.Names.{pigeons}

@@ -1,8 +1,8 @@
 -- Times that no bound passes, and schedules made of them.
-use Rattle.std.proofs.Common.{◌≡◌, ℕ, ◌<◌, Bool, true, false, ◌⊎◌, ◌↔◌, List, [], ◌∷◌, ℤ, Some, None, Option, sym, refl, ap, ◌∙◌, subst, inl, inr}
+use Rattle.std.proofs.Common.{◌≡◌, ℕ, ◌<◌, true, false, List, ℤ, Some, None, Option, sym, refl, ap, ◌∙◌, subst, inl, inr}
 use Rattle.kinds.specs.Arithmetic.{Arithmetic, Amount, AtMost, Lawful, Inverse}
 use Rattle.walks.specs.Bounds.{Bounds, InForce, Within}
-use Rattle.walks.specs.Least.{added, lesser, least, distance, contradictory, time}
+use Rattle.walks.specs.Least.{added, lesser, distance, contradictory, time}
 use Rattle.walks.specs.Walks.{Walk, UnderZero, Schedule}
 use Rattle.walks.specs.Walks.Walk.{alone, on}
 use Rattle.walks.specs.Claims.{ContradictionIsNoSchedule, Scheduled, TimesAreSchedule}

@@ -1,5 +1,5 @@
 -- The sum of at most m bounds is of at most m times the size of one.
-use Rattle.std.proofs.Common.{◌≡◌, ℕ, zero, suc, ◌+◌, ◌*◌, ◌≤◌, List, [], ◌∷◌, length, ℤ, ap, le_of_suc-le-suc, arith}
+use Rattle.std.proofs.Common.{◌≡◌, ℕ, zero, suc, ◌+◌, ◌*◌, ◌≤◌, List, length, ℤ, ap, le_of_suc-le-suc, arith}
 use Rattle.kinds.specs.Arithmetic.{Arithmetic, Lawful}
 use Rattle.walks.specs.Bounds.{Bounds, InForce, Within, Sized}
 use Rattle.walks.specs.Walks.{Walk}

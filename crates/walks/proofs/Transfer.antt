@@ -1,5 +1,5 @@
 -- Walks, loops, schedules, distances and windows depend on nothing but which bounds are in force.
-use Rattle.std.proofs.Common.{◌≡◌, ℕ, ◌<◌, ◌↔◌, List, [], ◌∷◌, ℤ, Some, None, Option, sym, refl, ap, ◌∙◌, subst, arith}
+use Rattle.std.proofs.Common.{◌≡◌, ℕ, ◌<◌, List, ℤ, Some, None, Option, refl, subst, arith}
 use Rattle.kinds.specs.Arithmetic.{Arithmetic, Amount}
 use Rattle.walks.specs.Bounds.{Within, amount_of, amounts_of}
 use Rattle.walks.specs.Walks.{Walk, Route, UnderZero, Loop, Schedule, Told, Window}

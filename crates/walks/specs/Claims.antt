@@ -1,5 +1,5 @@
 -- What is claimed of the computed definitions, for every lawful arithmetic and all bounds in force.
-use Rattle.std.specs.Prelude.{◌≡◌, ℕ, ◌*◌, ◌<◌, ◌≤◌, Bool, true, false, ◌↔◌, List, length, ℤ, Some, None, Option}
+use Rattle.std.specs.Prelude.{◌≡◌, ℕ, ◌*◌, ◌<◌, ◌≤◌, true, false, ◌↔◌, List, length, ℤ, Some, Option}
 use Rattle.kinds.specs.Arithmetic.{Arithmetic, Amount, AtMost, Lawful, Inverse}
 use Rattle.walks.specs.Bounds.{Bounds, InForce, Within, Sized}
 use Rattle.walks.specs.Walks.{Route, UnderZero, Loop, Schedule, Told, Window}

@@ -1,6 +1,6 @@
 -- Walks, loops, schedules, distances and windows, in the words of the subject.
 -- E i j a: a bound of amount a is in force from i to j.
-use Rattle.std.specs.Prelude.{◌≡◌, ℕ, Bool, true, false, ◌⊎◌, ◌↔◌, List, [], ◌∷◌, ◌++◌, ℤ, Some, None, Option}
+use Rattle.std.specs.Prelude.{◌≡◌, ℕ, false, ◌⊎◌, ◌↔◌, List, [], ◌∷◌, ◌++◌, ℤ, Some, None, Option}
 use Rattle.kinds.specs.Arithmetic.{Arithmetic, Amount, AtMost}
 
 abbrev pub Member : ℕ → List ℕ → Type 0

@@ -1,5 +1,5 @@
 -- What a worked example lays down, and what the definitions that the calls promise make of it.
-use Rattle.std.specs.Prelude.{ℕ, Bool, true, false, List, [], ◌∷◌, map, ℤ, Ok, Err, Option, Result}
+use Rattle.std.specs.Prelude.{ℕ, Bool, true, false, List, map, ℤ, Ok, Err, Option, Result}
 use Rattle.kinds.specs.Arithmetic.{Arithmetic}
 use Rattle.kinds.specs.Rows.{rows, minus}
 use Rattle.walks.specs.Least.{contradictory, window, time}

@@ -1,5 +1,5 @@
 -- The worked examples with what they come to, as one table.
-use Rattle.std.specs.Prelude.{◌≡◌, ℕ, Bool, true, false, List, [], ◌∷◌, ℤ, pos, neg_ℤ, Some, None, Option}
+use Rattle.std.specs.Prelude.{◌≡◌, ℕ, true, false, List, [], ◌∷◌, ℤ, pos, neg_ℤ, Some, None, Option}
 use Rattle.kinds.specs.Rows.{rows}
 use Rattle.kinds.specs.Bytes.{row_bytes, row_of}
 use Rattle.order.specs.declared.counts.Counts.{Counts}

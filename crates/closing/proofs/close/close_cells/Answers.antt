@@ -1,5 +1,5 @@
 -- The two ends of closing.
-use Rattle.std.proofs.Common.{◌≡◌, sym, refl, ap, ◌∙◌, arith, rules}
+use Rattle.std.proofs.Common.{refl, ◌∙◌, arith}
 use Rattle.closing.proofs.Tying.{few_names, kept_eliminated, loop_ends, kept_swept, closed_ends}
 use Rattle.closing.proofs.close.close_cells.Goals as goal
 

@@ -1,5 +1,5 @@
 -- From i to k, and back to i.
-use Rattle.std.proofs.Common.{◌≡◌, ℕ, ◌<◌, List, length, sym, refl, ◌∙◌, subst, arith, length-set, rules}
+use Rattle.std.proofs.Common.{ℕ, List, sym, subst, arith, length-set}
 use Rattle.closing.specs.Trace.{Names}
 use Rattle.closing.proofs.Loops.{one_name, first_event, part_start, part_next, part_done}
 use Rattle.closing.proofs.contradiction.show_loop.Goals as goal

@@ -1,5 +1,5 @@
 -- A bound in force, or two worked bounds.
-use Rattle.std.proofs.Common.{◌≡◌, sym, refl, ◌∙◌, subst, arith, rules}
+use Rattle.std.proofs.Common.{rules}
 use Rattle.closing.proofs.Traces.{onward_one, onward_two}
 use Rattle.closing.proofs.trail.+expand.Goals as goal
 

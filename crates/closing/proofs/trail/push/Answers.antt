@@ -1,5 +1,5 @@
 -- Where the rank stands already, and where it is new.
-use Rattle.std.proofs.Common.{◌≡◌, ℕ, ◌<◌, List, length, sym, ◌∙◌, subst, arith, length-set, rules}
+use Rattle.std.proofs.Common.{◌≡◌, ℕ, List, sym, subst, arith, length-set, rules}
 use Rattle.closing.specs.Trace.{Names}
 use Rattle.closing.proofs.Pushes.{has_room, at_old, at_new, names_pushed}
 use Rattle.closing.proofs.trail.push.Goals as goal

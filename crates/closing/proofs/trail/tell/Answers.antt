@@ -1,5 +1,5 @@
 -- One event after the other.
-use Rattle.std.proofs.Common.{◌≡◌, sym, refl, ap, ◌∙◌, arith, drop-set-lt, rules}
+use Rattle.std.proofs.Common.{◌≡◌, refl, ◌∙◌, arith, drop-set-lt}
 use Rattle.eliminator.specs.Views.{event_at}
 use Rattle.closing.proofs.Telling.{rank_below, told_more}
 use Rattle.closing.proofs.trail.tell.Goals as goal

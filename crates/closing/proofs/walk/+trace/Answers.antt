@@ -1,5 +1,5 @@
 -- A worked bound, or a distance and a worked bound.
-use Rattle.std.proofs.Common.{◌≡◌, sym, refl, ◌∙◌, subst, arith, rules}
+use Rattle.std.proofs.Common.{arith}
 use Rattle.closing.proofs.Towards.{toward_one, toward_ahead, toward_back}
 use Rattle.closing.proofs.walk.+trace.Goals as goal
 

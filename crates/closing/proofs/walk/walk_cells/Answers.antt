@@ -1,5 +1,5 @@
 -- The ranks of the walk, told as events.
-use Rattle.std.proofs.Common.{arith, rules}
+use Rattle.std.proofs.Common.{arith}
 use Rattle.closing.proofs.Tying.{few_names, walk_told}
 use Rattle.closing.proofs.walk.walk_cells.Goals as goal
 

@@ -1,5 +1,5 @@
 -- The rank alone, or the trace behind it.
-use Rattle.std.proofs.Common.{◌≡◌, ℕ, ◌<◌, List, length, sym, refl, ◌∙◌, subst, arith, length-set, rules}
+use Rattle.std.proofs.Common.{ℕ, List, sym, subst, arith, length-set}
 use Rattle.closing.specs.Trace.{Names}
 use Rattle.closing.proofs.Loops.{one_name, first_event}
 use Rattle.closing.proofs.Towards.{walked}

@@ -1,6 +1,5 @@
 -- One rank after the other, from the highest down.
-use Rattle.std.proofs.Common.{◌≡◌, ℕ, suc, ◌-◌, refl, ◌∙◌, arith, rules}
-use Rattle.eliminator.specs.Steps.{Whole}
+use Rattle.std.proofs.Common.{◌≡◌, suc, ◌-◌, refl, ◌∙◌, arith}
 use Rattle.eliminator.specs.Views.{view}
 use Rattle.eliminator.proofs.Visiting.{waits_start, waits_on, fewer, never}
 use Rattle.eliminator.proofs.Relaxing.{whole, near_next, bears_turn, bears_all}

@@ -1,9 +1,9 @@
 -- The ranks from k on are gone; of the neighbours of k below it those that wait no more are tested.
-use Rattle.std.proofs.Common.{◌≡◌, ℕ, ◌<◌, ◌≤◌, length, None}
+use Rattle.std.proofs.Common.{◌≡◌, ℕ, ◌≤◌, length, None}
 use Rattle.kinds.specs.Arithmetic.{Lawful}
 use Rattle.marks.specs.Sets.{has, how_many}
 use Rattle.eliminator.specs.Views.{view}
-use Rattle.eliminator.specs.Steps.{Lower, Near}
+use Rattle.eliminator.specs.Steps.{Near}
 use Rattle.eliminator.specs.State.{SameForce, Ready, Stage, Bears}
 use Rattle.eliminator.proofs.Visiting.{Seen, Waits}
 use Rattle.eliminator.proofs.eliminate.eliminate.Given as goal

@@ -1,5 +1,5 @@
 -- One column after the other.
-use Rattle.std.proofs.Common.{◌≡◌, ◌+◌, List, length, sym, refl, ap, ◌∙◌, subst, arith, rules}
+use Rattle.std.proofs.Common.{◌≡◌, ◌+◌, List, length, sym, refl, ap, ◌∙◌, subst, arith}
 use Rattle.table.specs.declared.cell.Cell.{Cell}
 use Rattle.eliminator.specs.Views.{view}
 use Rattle.eliminator.specs.Members.{Others}

@@ -1,5 +1,5 @@
 -- One row after the other.
-use Rattle.std.proofs.Common.{◌≡◌, ◌<◌, length, refl, ◌∙◌, arith, rules}
+use Rattle.std.proofs.Common.{refl, ◌∙◌, arith}
 use Rattle.eliminator.proofs.Visiting.{waits_start, waits_on, fewer}
 use Rattle.eliminator.proofs.Relaxing.{row_all, part_start, part_turn, part_done, joined_start, joined_turn, joined_done}
 use Rattle.eliminator.proofs.eliminate.take_out.Goals as goal

@@ -1,5 +1,5 @@
 -- One member after the other.
-use Rattle.std.proofs.Common.{◌≡◌, ◌<◌, length, refl, ◌∙◌, arith, length-set, rules}
+use Rattle.std.proofs.Common.{refl, arith, length-set}
 use Rattle.marks.specs.Sets.{has}
 use Rattle.eliminator.proofs.Visiting.{waits_start, waits_on, fewer}
 use Rattle.eliminator.proofs.Listing.{count_most, list_start, list_turn, list_done}

@@ -1,5 +1,5 @@
 -- The write at the events of two ranks is a write at those ranks.
-use Rattle.std.proofs.Common.{length, sym, ap, ◌∙◌, length-set}
+use Rattle.std.proofs.Common.{length, ap, ◌∙◌, length-set}
 use Rattle.eliminator.proofs.Viewing.{written}
 use Rattle.eliminator.proofs.ranks.put_ranks.Goals as goal
 

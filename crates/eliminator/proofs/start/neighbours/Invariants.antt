@@ -1,5 +1,5 @@
 -- The ranks below s are marked where a bound joins them.
-use Rattle.std.proofs.Common.{◌≡◌, ℕ, ◌<◌}
+use Rattle.std.proofs.Common.{ℕ, ◌<◌}
 use Rattle.marks.specs.Sets.{has}
 use Rattle.eliminator.specs.Views.{view}
 use Rattle.eliminator.specs.Steps.{Touching}

@@ -1,5 +1,5 @@
 -- The marks of one rank after the other.
-use Rattle.std.proofs.Common.{◌≡◌, ◌<◌, length, ap, ◌∙◌, arith, rules}
+use Rattle.std.proofs.Common.{◌≡◌, arith}
 use Rattle.eliminator.specs.Views.{view}
 use Rattle.eliminator.proofs.Beginning.{begun_view, marks_row, near_start}
 use Rattle.eliminator.proofs.start.start.Goals as goal

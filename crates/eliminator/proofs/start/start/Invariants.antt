@@ -1,5 +1,5 @@
 -- The marks of the ranks below r are set.
-use Rattle.std.proofs.Common.{◌≡◌, ℕ, ◌<◌}
+use Rattle.std.proofs.Common.{ℕ, ◌<◌}
 use Rattle.marks.specs.Sets.{has}
 use Rattle.eliminator.specs.Views.{view}
 use Rattle.eliminator.specs.Steps.{marked, Touching}

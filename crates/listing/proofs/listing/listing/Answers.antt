@@ -1,11 +1,11 @@
 -- What becomes of a sheet: refused, at fault, or listed.
-use Rattle.std.proofs.Common.{◌≡◌, ℕ, List, Ok, Err, ap, ◌∙◌, subst, arith}
-use Rattle.net.specs.State.{State, room, made}
+use Rattle.std.proofs.Common.{◌≡◌, ℕ, List, Ok, Err, ◌∙◌, subst, arith}
+use Rattle.net.specs.State.{room, made}
 use Rattle.sheet.specs.Faults.{in_bytes}
 use Rattle.sheet.specs.Told.{fault_of}
-use Rattle.sheet.specs.Sheets.{reading, read_sheet}
+use Rattle.sheet.specs.Sheets.{reading}
 use Rattle.lines.specs.Fields.{fault_text}
-use Rattle.listing.specs.Listings.{micros_coding, fault_line}
+use Rattle.listing.specs.Listings.{fault_line}
 use Rattle.listing.specs.Standing.{Stands}
 use Rattle.listing.specs.Asked.{state_of}
 use Rattle.listing.proofs.Written.{line_stands, refused_listed, fault_listed, fault_told, read_listed, too_long, short_enough, few_events, read_made}

@@ -1,5 +1,5 @@
 -- A row more.
-use Rattle.std.proofs.Common.{◌≡◌, ℕ, ◌+◌, ◌-◌, subst, arith}
+use Rattle.std.proofs.Common.{◌≡◌, ℕ, ◌+◌, subst, arith}
 use Rattle.listing.specs.Standing.{Stands}
 use Rattle.listing.specs.Texts.{texts, row_text}
 use Rattle.listing.specs.Listings.{ends_of}

@@ -1,5 +1,5 @@
 -- The rows that stand so far.
-use Rattle.std.proofs.Common.{◌+◌, ◌-◌, ◌*◌, ◌≤◌}
+use Rattle.std.proofs.Common.{◌+◌, ◌*◌, ◌≤◌}
 use Rattle.listing.specs.Standing.{Stands}
 use Rattle.listing.specs.Texts.{texts, row_text}
 use Rattle.listing.proofs.PairCounts.{before}

@@ -1,4 +1,4 @@
-use Rattle.std.proofs.Common.{◌≡◌, length, sym, ap, ◌∙◌, arith, length-take, rules}
+use Rattle.std.proofs.Common.{◌≡◌, length, sym, ap, ◌∙◌, arith, length-take}
 use Rattle.table.specs.Cells.{bounds, neighbours}
 use Rattle.net.proofs.Neighbourhoods.{counts_moved}
 use Rattle.net.proofs.links.counts.Goals as goal

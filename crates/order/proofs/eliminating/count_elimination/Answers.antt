@@ -1,6 +1,6 @@
 -- One event more is eliminated.
-use Rattle.std.proofs.Common.{sym, refl, ap, ◌∙◌, arith}
-use Rattle.order.proofs.Fills.{Telling, telling_starts, telling_turn, telling_width, telling_within, telling_ends, told_all, told_after, told_bounded}
+use Rattle.std.proofs.Common.{refl, arith}
+use Rattle.order.proofs.Fills.{telling_starts, telling_turn, telling_width, telling_within, telling_ends, told_all, told_after, told_bounded}
 use Rattle.order.proofs.Ranks.{lower_free}
 use Rattle.order.proofs.eliminating.count_elimination.Goals as goal
 

@@ -1,7 +1,7 @@
 -- One member more is met.
 use Rattle.std.proofs.Common.{length, arith}
 use Rattle.order.proofs.Visits.{visit_less}
-use Rattle.order.proofs.Pairings.{Pairing, pairing_starts, pairing_turn, pairing_ends}
+use Rattle.order.proofs.Pairings.{pairing_starts, pairing_turn, pairing_ends}
 use Rattle.order.proofs.eliminating.pairs_apart.Goals as goal
 
 pub loop-event-init : goal.loop-event-init

@@ -1,5 +1,5 @@
 -- One member more is compared.
-use Rattle.std.proofs.Common.{◌≡◌, ◌<◌, ◌&&◌, length, sym, ◌∙◌, arith}
+use Rattle.std.proofs.Common.{◌≡◌, ◌&&◌, length, ◌∙◌, arith}
 use Rattle.marks.specs.Sets.{has}
 use Rattle.order.specs.Neighbours.{graph_of, free_degree}
 use Rattle.order.proofs.Visits.{search_starts, search_better, search_worse, search_ends, visit_less, counted}

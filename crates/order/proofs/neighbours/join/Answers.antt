@@ -1,7 +1,7 @@
 -- One member more is joined.
-use Rattle.std.proofs.Common.{◌≡◌, ◌<◌, ◌||◌, length, sym, ap, ◌∙◌, arith}
+use Rattle.std.proofs.Common.{◌||◌, ap, ◌∙◌, arith}
 use Rattle.order.specs.Neighbours.{graph_of}
-use Rattle.order.proofs.Visits.{Visit, visit_starts, visit_turn, visit_less}
+use Rattle.order.proofs.Visits.{visit_turn, visit_less}
 use Rattle.order.proofs.neighbours.join.Goals as goal
 
 pub slice_copy_out-union : goal.slice_copy_out-union

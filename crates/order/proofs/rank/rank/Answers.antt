@@ -1,10 +1,10 @@
 -- One rank more is given.
-use Rattle.std.proofs.Common.{◌≡◌, ℕ, ◌-◌, ◌<◌, length, get_or, sym, refl, ap, ◌∙◌, subst, arith}
+use Rattle.std.proofs.Common.{◌≡◌, length, refl, subst, arith}
 use Rattle.order.specs.Orderings.{stretch}
 use Rattle.order.specs.Neighbours.{graph_of, Chosen}
 use Rattle.order.specs.Ranking.{Ranked}
 use Rattle.order.proofs.Placing.{Permutes, permutes}
-use Rattle.order.proofs.Ranks.{Ranking, ranking_starts, ranking_more, ranking_turn, ranking_ends, ranking_within, lower_free, whole, whole_after}
+use Rattle.order.proofs.Ranks.{ranking_starts, ranking_more, ranking_turn, ranking_ends, ranking_within, lower_free, whole, whole_after}
 use Rattle.order.proofs.Computed.{computed_whole}
 use Rattle.order.proofs.rank.rank.Goals as goal
 

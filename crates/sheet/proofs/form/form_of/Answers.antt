@@ -1,5 +1,5 @@
 -- The form is the one of the tag.
-use Rattle.std.proofs.Common.{◌≡◌, length, Option, sym, ap, ◌∙◌, subst, arith, rules}
+use Rattle.std.proofs.Common.{◌≡◌, length, Option, ◌∙◌, subst, arith, rules}
 use Rattle.std.proofs.lemmas.Slice.{between_to_end}
 use Rattle.sheet.specs.Records.{Coding, Said}
 use Rattle.sheet.specs.Codes.{SaidCodes}

@@ -1,5 +1,5 @@
 -- Each call answers by the number of events and of cells alone.
-use Rattle.std.proofs.Common.{◌≡◌, Ok, Err, Result, sym, refl, ap, ◌∙◌, subst, rules}
+use Rattle.std.proofs.Common.{◌≡◌, Err, sym, refl, ap, ◌∙◌}
 use Rattle.std.proofs.lemmas.Result.{err_from_is_err_and}
 use Rattle.net.specs.Refusals.{reason, answered}
 use Rattle.sheet.specs.Records.{begin, require, arrange}

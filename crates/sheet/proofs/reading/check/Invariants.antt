@@ -1,5 +1,5 @@
 -- The records so far are checked.
-use Rattle.std.proofs.Common.{◌≡◌, ◌-◌, length, get_or}
+use Rattle.std.proofs.Common.{◌≡◌, ◌-◌, length}
 use Rattle.net.specs.State.{State}
 use Rattle.sheet.specs.Told.{coding}
 use Rattle.sheet.proofs.Runs.{Reads}

@@ -1,5 +1,5 @@
 -- A sheet that passed the check is not refused.
-use Rattle.std.proofs.Common.{◌≡◌, ℕ, ◌≤◌, Ok, Err, Result, sym, refl, ap, ◌∙◌, subst, arith}
+use Rattle.std.proofs.Common.{◌≡◌, ℕ, ◌≤◌, Ok, Err, Result, sym, ap, ◌∙◌, subst, arith}
 use Rattle.order.specs.Orderings.{events_of, arranged}
 use Rattle.net.specs.Limits.{most_events}
 use Rattle.net.specs.State.{State, state, room, Untouched}

@@ -1,7 +1,6 @@
 -- The bound told is the one in force.
 use Rattle.table.specs.Cells.{amount_of}
 use Rattle.net.specs.State.{state}
-use Rattle.net.specs.Refusals.{reason}
 use Rattle.sheet.proofs.Places.{told_some, told_none}
 use Rattle.sheet.proofs.writing.bound_between.Goals as goal
 

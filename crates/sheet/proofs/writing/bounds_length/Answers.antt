@@ -1,5 +1,5 @@
 -- One row more is counted.
-use Rattle.std.proofs.Common.{◌≡◌, ◌+◌, sym, refl, ap, ◌∙◌, subst, arith}
+use Rattle.std.proofs.Common.{sym, arith}
 use Rattle.net.specs.State.{state}
 use Rattle.sheet.specs.Told.{coding}
 use Rattle.sheet.proofs.Places.{all_length_none, all_length_more}

@@ -1,5 +1,5 @@
 -- Every rank up to n has an event.
-use Rattle.std.proofs.Common.{◌≡◌, ℕ, ◌<◌, sym, subst, arith}
+use Rattle.std.proofs.Common.{◌<◌, sym, subst, arith}
 use Rattle.sheet.proofs.OrderWritten.{event_there, event_missing}
 use Rattle.sheet.proofs.writing.event_of.Goals as goal
 

@@ -1,6 +1,5 @@
 -- The head, the two events and the bytes of the bound stand after each other.
-use Rattle.std.proofs.Common.{◌≡◌, ℕ, ◌+◌, ◌-◌, ◌/◌, ◌%◌, List, [], ◌∷◌, length, drop, set, sym, refl, ap, ◌∙◌, subst, arith}
-use borrow.Rule.Slice.PartMut.{put_mid}
+use Rattle.std.proofs.Common.{◌≡◌, ◌+◌, ◌-◌, ◌/◌, ◌%◌, ◌∷◌, drop, refl, ap, ◌∙◌, arith}
 use Rattle.sheet.proofs.Places.{bytes_put, bound_laid}
 use Rattle.sheet.proofs.writing.put_bound.Goals as goal
 

@@ -1,5 +1,5 @@
 -- The version and the events stand at the front.
-use Rattle.std.proofs.Common.{◌≡◌, List, [], ◌∷◌, ◌++◌, drop, set, sym, refl, ap, ◌∙◌}
+use Rattle.std.proofs.Common.{[], ◌∷◌, ◌++◌, drop, set, refl, ap, ◌∙◌}
 use Rattle.sheet.proofs.SheetWritten.{events_laid}
 use Rattle.sheet.proofs.writing.put_events.Goals as goal
 

@@ -1,6 +1,5 @@
 -- One event more is written.
-use Rattle.std.proofs.Common.{◌≡◌, ℕ, ◌+◌, ◌/◌, ◌%◌, ◌<◌, ◌∷◌, length, drop, sym, refl, ap, ◌∙◌, subst, arith}
-use Rattle.net.specs.State.{state}
+use Rattle.std.proofs.Common.{◌+◌, ◌/◌, ◌%◌, ◌∷◌, drop, ap, ◌∙◌, arith}
 use Rattle.order.specs.Orderings.{events_of}
 use Rattle.order.proofs.Orders.{events_count}
 use Rattle.sheet.proofs.OrderWritten.{order_start, order_turn, order_done}

@@ -1,8 +1,7 @@
 -- The parts of the sheet stand after each other.
-use Rattle.std.proofs.Common.{◌≡◌, ◌+◌, ◌-◌, length, take, drop, sym, refl, ap, ◌∙◌, arith}
+use Rattle.std.proofs.Common.{◌+◌, ◌-◌, length, refl, ◌∙◌, arith}
 use borrow.Rule.Slice.PartMut.{put_mid, same_len_mid}
 use Rattle.std.proofs.lemmas.List.{length-take, length-drop}
-use Rattle.order.specs.Orderings.{events_of}
 use Rattle.order.proofs.Orders.{events_count}
 use Rattle.net.specs.State.{state, cells_of}
 use Rattle.sheet.specs.Told.{coding}

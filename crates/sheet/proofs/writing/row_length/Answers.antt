@@ -1,5 +1,5 @@
 -- One pair more is counted.
-use Rattle.std.proofs.Common.{◌≡◌, ◌+◌, sym, refl, ap, ◌∙◌, subst, arith}
+use Rattle.std.proofs.Common.{sym, arith}
 use Rattle.net.specs.State.{state}
 use Rattle.sheet.specs.Told.{coding}
 use Rattle.sheet.proofs.Places.{row_length_none, row_length_more}

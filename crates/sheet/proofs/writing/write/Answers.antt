@@ -1,5 +1,5 @@
 -- The place takes the sheet, or is too short for it.
-use Rattle.std.proofs.Common.{◌≡◌, ℕ, ◌+◌, ◌≤◌, Ok, sym, refl, ap, ◌∙◌, subst, arith}
+use Rattle.std.proofs.Common.{◌≡◌, ℕ, ◌≤◌, Ok, ◌∙◌, subst, arith}
 use Rattle.order.specs.Orderings.{events_of, arranged}
 use Rattle.order.proofs.Orders.{events_count}
 use Rattle.sheet.specs.Written.{sheet_length}

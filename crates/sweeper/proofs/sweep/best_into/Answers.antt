@@ -1,5 +1,5 @@
 -- One rank after the other.
-use Rattle.std.proofs.Common.{◌≡◌, ◌+◌, get_or, sym, refl, ap, ◌∙◌, subst, inl, inr, arith, rules}
+use Rattle.std.proofs.Common.{◌≡◌, ◌+◌, get_or, sym, ap, subst, inl, inr, arith}
 use Rattle.table.specs.declared.cell.Cell.{Cell}
 use Rattle.eliminator.specs.Views.{view}
 use Rattle.eliminator.specs.Members.{Among}

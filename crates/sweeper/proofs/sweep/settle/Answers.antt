@@ -1,5 +1,5 @@
 -- A write that keeps what the elimination left.
-use Rattle.std.proofs.Common.{◌<◌, length, refl, arith, length-set, rules}
+use Rattle.std.proofs.Common.{◌<◌, length, arith, length-set, rules}
 use Rattle.sweeper.proofs.Settling.{settled_in_place}
 use Rattle.sweeper.proofs.sweep.settle.Goals as goal
 

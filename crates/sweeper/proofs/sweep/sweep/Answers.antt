@@ -1,5 +1,5 @@
 -- One rank after the other, each with every lower one and itself.
-use Rattle.std.proofs.Common.{◌≡◌, sym, refl, ap, ◌∙◌, subst, arith, rules}
+use Rattle.std.proofs.Common.{◌≡◌, refl, ◌∙◌, arith}
 use Rattle.eliminator.specs.Views.{view}
 use Rattle.sweeper.proofs.Bests.{same_self, same_more, done_start, done_row, done_next, paired_as}
 use Rattle.sweeper.proofs.Summing.{summed}

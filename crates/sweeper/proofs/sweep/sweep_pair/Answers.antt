@@ -1,5 +1,5 @@
 -- Both are found before either is written.
-use Rattle.std.proofs.Common.{◌≡◌, refl, ◌∙◌, arith}
+use Rattle.std.proofs.Common.{◌∙◌}
 use Rattle.sweeper.proofs.Bests.{paired}
 use Rattle.sweeper.proofs.sweep.sweep_pair.Goals as goal
 

@@ -1,6 +1,6 @@
-use Rattle.std.proofs.Common.{◌≡◌, [], ◌∷◌, ◌++◌, length, take, sym, refl, ap, ◌∙◌, append-nil, arith, w64, SFits, to_z, of_z, rules}
+use Rattle.std.proofs.Common.{sym, ap, ◌∙◌, append-nil, arith, w64, SFits, rules}
 use Rattle.std.proofs.lemmas.Int.{to_z-of_z}
-use Rattle.kinds.specs.Bytes.{whole_bytes, whole_of}
+use Rattle.kinds.specs.Bytes.{whole_bytes}
 use Rattle.kinds.proofs.Eight.{whole_back, whole_long}
 use Rattle.kinds.proofs.Laid.{one_front}
 use Rattle.kinds.proofs.micros.MicrosKind.write.Goals as goal

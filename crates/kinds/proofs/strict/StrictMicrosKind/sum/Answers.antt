@@ -1,4 +1,4 @@
-use Rattle.std.proofs.Common.{◌≡◌, List, [], ◌∷◌, ℤ, refl, arith}
+use Rattle.std.proofs.Common.{◌≡◌, [], ◌∷◌, ℤ, arith}
 use borrow.Author.Differences.{ints}
 use Rattle.kinds.proofs.strict.StrictMicrosKind.sum.Goals as goal
 

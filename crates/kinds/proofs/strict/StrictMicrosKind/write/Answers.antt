@@ -1,7 +1,7 @@
-use Rattle.std.proofs.Common.{◌≡◌, [], ◌++◌, length, sym, ap, ◌∙◌, arith, w64, SFits, to_z, of_z, rules}
+use Rattle.std.proofs.Common.{◌≡◌, ◌++◌, length, ap, ◌∙◌, arith, w64, SFits, rules}
 use borrow.Rule.Slice.PartMut.{put_mid, post_of}
 use Rattle.std.proofs.lemmas.Int.{to_z-of_z}
-use Rattle.kinds.specs.Bytes.{whole_bytes, whole_of}
+use Rattle.kinds.specs.Bytes.{whole_bytes}
 use Rattle.kinds.proofs.Eight.{whole_back, whole_long}
 use Rattle.kinds.proofs.Laid.{laid, fronts}
 use Rattle.kinds.proofs.strict.StrictMicrosKind.write.Goals as goal

@@ -1,4 +1,4 @@
-use Rattle.std.proofs.Common.{◌≡◌, length, sym, refl, ap, subst, arith}
+use Rattle.std.proofs.Common.{length, sym, refl, ap, subst, arith}
 use Rattle.net.specs.State.{Sound}
 use Rattle.net.proofs.Outcomes.{make_done, first_count}
 use Rattle.net.proofs.Closings.{kept_open}

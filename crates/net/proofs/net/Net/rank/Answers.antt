@@ -1,4 +1,4 @@
-use Rattle.std.proofs.Common.{refl, rules}
+use Rattle.std.proofs.Common.{refl}
 use Rattle.net.proofs.Outcomes.{rank_done}
 use Rattle.net.proofs.Closings.{kept_open}
 use Rattle.net.proofs.Soundness.{sound_ranked, sound_after}

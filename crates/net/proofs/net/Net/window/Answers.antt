@@ -1,4 +1,4 @@
-use Rattle.std.proofs.Common.{Ok, Err, refl, ap, ◌∙◌, ap₂, arith}
+use Rattle.std.proofs.Common.{Ok, ap, ◌∙◌, ap₂, arith}
 use Rattle.std.proofs.lemmas.Result.{err_from_is_err_and}
 use Rattle.net.specs.State.{cells_of}
 use Rattle.walks.specs.Least.{opposite}

@@ -1,11 +1,11 @@
 -- One event more has its place, or is the first at fault.
-use Rattle.std.proofs.Common.{◌≡◌, length, get_or, Some, None, Ok, sym, refl, ap, ◌∙◌, arith}
+use Rattle.std.proofs.Common.{◌≡◌, get_or, Some, None, Ok, sym, refl, ap, ◌∙◌, arith}
 use lib.ListN.{get_or-replicate}
 use Rattle.order.specs.declared.event_order.Misordered.TheVariants.{Outside, Again}
 use Rattle.order.specs.Orderings.{stretch}
 use Rattle.order.proofs.Stretches.{stretch_same, stretch_whole}
-use Rattle.order.proofs.Faults.{sound_outside, sound_again, sound_ends, arranged_by, arranged_large, arranged_count}
-use Rattle.order.proofs.Placing.{Placed, placed_starts, placed_more, Permutes, placed_permutes}
+use Rattle.order.proofs.Faults.{sound_outside, sound_again, sound_ends, arranged_by}
+use Rattle.order.proofs.Placing.{placed_starts, placed_more, Permutes, placed_permutes}
 use Rattle.order.proofs.event_order.EventOrder.from_list.Goals as goal
 
 pub loop-k-init : goal.loop-k-init

@@ -1,5 +1,5 @@
 -- What stands at the offset is told.
-use Rattle.std.proofs.Common.{refl, arith, rules}
+use Rattle.std.proofs.Common.{refl}
 use Rattle.sheet.proofs.Nexts.{at_missing, at_end, at_cut_short, at_cut_body, at_found}
 use Rattle.sheet.proofs.reader.Reader.next.Goals as goal
 
