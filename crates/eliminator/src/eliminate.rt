@@ -1,5 +1,5 @@
 // Elimination: ranks are taken out from the highest down, and the bounds by them worked into those that are left.
-ghost use Rattle.std.specs.Prelude.{◌≡◌, ℕ, ◌+◌, ◌*◌, ◌^◌, ◌<◌, ◌≤◌, true, false, T as True, length, Some, None, MatchOption, slice_index};
+ghost use Rattle.std.specs.Prelude.{◌≡◌, ℕ, ◌+◌, ◌*◌, ◌^◌, ◌<◌, ◌≤◌, true, false, T, length, Some, None, MatchOption, slice_index};
 ghost use Rattle.kinds.specs.Arithmetic.{Arithmetic, AtMost};
 ghost use Rattle.marks.specs.Sets.{has};
 ghost use Rattle.eliminator.specs.Views.{view};
@@ -17,8 +17,8 @@ use table::cell::Cell;
 
 // Whether the sum is less than what is there, or the first.
 pub fn improves<K: Kind>(sum: K, old: Option<K>) -> bool
-    ensures yes { True result → (a : K) → old ≡ Some a → AtMost K.Kind.arithmetic (K.Kind.amount a) (K.Kind.amount sum) → ⊥ }
-    ensures no { (True result → ⊥) → (a : K) × (old ≡ Some a) × (AtMost K.Kind.arithmetic (K.Kind.amount a) (K.Kind.amount sum)) }
+    ensures yes { T result → (a : K) → old ≡ Some a → AtMost K.Kind.arithmetic (K.Kind.amount a) (K.Kind.amount sum) → ⊥ }
+    ensures no { (T result → ⊥) → (a : K) × (old ≡ Some a) × (AtMost K.Kind.arithmetic (K.Kind.amount a) (K.Kind.amount sum)) }
 {
     match old {
         None => true,
@@ -127,8 +127,8 @@ fn take_out<K: Kind>(
 
 // Whether two worked bounds, out and back, sum to less than zero.
 fn falls<K: Kind>(into: Option<K>, out: Option<K>) -> bool
-    ensures yes { True result → Falls K.Kind.arithmetic K.Kind.amount into out }
-    ensures no { (True result → ⊥) → Bears K.Kind.arithmetic K.Kind.amount into out }
+    ensures yes { T result → Falls K.Kind.arithmetic K.Kind.amount into out }
+    ensures no { (T result → ⊥) → Bears K.Kind.arithmetic K.Kind.amount into out }
 {
     match into {
         None => false,
@@ -151,8 +151,8 @@ fn fails<K: Kind>(cells: &[Cell<K>], order: &EventOrder, i: usize, k: usize) -> 
     requires fits { order.now.count * order.now.count ≤ length cells.now }
     requires row { i < order.now.count }
     requires column { k < order.now.count }
-    ensures yes { True result → Falls K.Kind.arithmetic K.Kind.amount (view order.now cells.now i k).worked (view order.now cells.now k i).worked }
-    ensures no { (True result → ⊥) → Bears K.Kind.arithmetic K.Kind.amount (view order.now cells.now i k).worked (view order.now cells.now k i).worked }
+    ensures yes { T result → Falls K.Kind.arithmetic K.Kind.amount (view order.now cells.now i k).worked (view order.now cells.now k i).worked }
+    ensures no { (T result → ⊥) → Bears K.Kind.arithmetic K.Kind.amount (view order.now cells.now i k).worked (view order.now cells.now k i).worked }
 {
     let into = at_ranks(cells, order, i, k);
     let out = at_ranks(cells, order, k, i);

@@ -12,7 +12,7 @@ use Rattle.net.specs.declared.mode.Mode.TheVariants.{Open, Closed}
 use Rattle.net.specs.declared.refusal.Refusal.{Refusal}
 use Rattle.net.specs.declared.refusal.Refusal.TheVariants.{EventsOutOfRange, TooFewCells, NoSuchEvent, SameEvent, PlaceTooShort, NotClosed, TooLarge, NothingToWithdraw, WrongCount, OutsideNet, NamedTwice, Contradiction}
 use Rattle.net.specs.Refusals.{Reason, by, reason, answered}
-use Rattle.net.specs.Closing.{in_mode, closing, numbered, carried, Shown, Rest, closed as net-closed}
+use Rattle.net.specs.Closing.{in_mode, closing, numbered, carried, Shown, Rest, closed as net_closed}
 use Rattle.net.specs.Limits.{most_events}
 use Rattle.net.specs.State.{State, Outcome, outcome, both_events}
 use Rattle.net.specs.Told.{shut}
@@ -85,8 +85,8 @@ module _ {A : Arithmetic} (law : Lawful A) {minus : List ℤ → List ℤ} (inv 
   loop_told (Err why) (inl (w, short, after)) e = let z : why.number ≡ 5 = ap (λ x. x.number) w in let y : why.number ≡ 16 = cc in absurd (omega arith)
   loop_told (Err why) (inr (m, w, room, against, after, few, loop)) e = (m, ap (λ x. Err x) w, few, loop_shown law past s st (take m place) loop)
 
-  pub close_law : (r : Result (Unit {0}) Reason) (Closed-after : Bool) → Closed-after ≡ shut t.mode → Closes A s t place r → Closing A past place r Closed-after
-  close_law r Closed-after is h =
+  pub close_law : (r : Result (Unit {0}) Reason) (closed_after : Bool) → closed_after ≡ shut t.mode → Closes A s t place r → Closing A past place r closed_after
+  close_law r closed_after is h =
       let (f, g) = close_stands r h in
       let (short, against, done) = first_of_two 5 16 (ended r) (λ e. omega arith) f in
       record {
@@ -115,13 +115,13 @@ close_takes {A = A} law inv {sheet = sheet} {cells = cells} c place r s t answer
     (takes_deed (close (length place)) (ended r) past t f g))
 
 -- the whole law, from the run of the calls and what is told after it
-pub law_whole : {A : Arithmetic} (law : Lawful A) {minus : List ℤ → List ℤ} (inv : Inverse A minus) (sheet : List ℕ → List Entry) (cells room : ℕ) (actions : List Action) (i j : ℕ) (slots slots-after : List Answer) (place-before place-mid place : List ℕ) (s t : State) (report : Report) → room ≡ cells → Ran A sheet room actions slots slots-after place-before place-mid s → Written (ended report.closing) place-mid place →
-    ((past : List Deed) → Stands A past s → Truly A past i j report.before) → Closes A s t place report.closing → ((past : List Deed) → Stands A past t → Truly A past i j report.after) → Law A sheet cells actions i j slots slots-after place-before place report
-law_whole {A = A} law inv sheet cells room actions i j slots slots-after place-before place-mid place s t report same ran shown before closes after =
-    let r : Ran A sheet cells actions slots slots-after place-before place-mid s = subst (λ (m : ℕ). Ran A sheet m actions slots slots-after place-before place-mid s) same ran in
+pub law_whole : {A : Arithmetic} (law : Lawful A) {minus : List ℤ → List ℤ} (inv : Inverse A minus) (sheet : List ℕ → List Entry) (cells room : ℕ) (actions : List Action) (i j : ℕ) (slots slots_after : List Answer) (place_before place_mid place : List ℕ) (s t : State) (report : Report) → room ≡ cells → Ran A sheet room actions slots slots_after place_before place_mid s → Written (ended report.closing) place_mid place →
+    ((past : List Deed) → Stands A past s → Truly A past i j report.before) → Closes A s t place report.closing → ((past : List Deed) → Stands A past t → Truly A past i j report.after) → Law A sheet cells actions i j slots slots_after place_before place report
+law_whole {A = A} law inv sheet cells room actions i j slots slots_after place_before place_mid place s t report same ran shown before closes after =
+    let r : Ran A sheet cells actions slots slots_after place_before place_mid s = subst (λ (m : ℕ). Ran A sheet m actions slots slots_after place_before place_mid s) same ran in
     let st = r.stands in
     let (f, g) = close_stands law inv cells r.past s t st place report.closing closes in
-    let truly-after = after (counted (ended report.closing) (close (length place)) r.past) g in
+    let truly_after = after (counted (ended report.closing) (close (length place)) r.past) g in
     record {
       answers = r.answers;
       past = r.past;
@@ -132,8 +132,8 @@ law_whole {A = A} law inv sheet cells room actions i j slots slots-after place-b
       unwritten = λ u. shown.1 u.0 ∙ r.unwritten u.1;
       calm = r.calm;
       before = before r.past st;
-      closing = close_law law inv cells r.past s t st place report.closing report.after.is_closed (truly-after.closed_or_not ∙ sym g.mode) closes;
-      after = truly-after;
+      closing = close_law law inv cells r.past s t st place report.closing report.after.is_closed (truly_after.closed_or_not ∙ sym g.mode) closes;
+      after = truly_after;
     }
 
 -- the front of a place that a close is given
@@ -170,8 +170,8 @@ refused_by_16 NamedTwice h = absurd (omega arith)
 refused_by_16 (Contradiction m) h = (m, refl)
 
 -- what a close answered and showed, by cases
-pub closes_of : (A : Arithmetic) (s t : State) (before place : List ℕ) (r : Result Counts Refusal) → length place ≡ length before → closing (numbered r) t ≡ net-closed A (length before) s → Shown A s.bounds place (carried r) → Rest s.events before place (carried r) → Closes A s t place (answered r)
-unfolding net-closed
+pub closes_of : (A : Arithmetic) (s t : State) (before place : List ℕ) (r : Result Counts Refusal) → length place ≡ length before → closing (numbered r) t ≡ net_closed A (length before) s → Shown A s.bounds place (carried r) → Rest s.events before place (carried r) → Closes A s t place (answered r)
+unfolding net_closed
 closes_of A s t before place r long told shown rest = by_tests (leb s.events (length before)) refl (contradictory A s.events s.bounds) refl told
   where
     too_short : (r : Result Counts Refusal) → length before < s.events → numbered r ≡ Err 5 → t ≡ s → Closes A s t place (answered r)

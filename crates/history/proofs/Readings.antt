@@ -10,7 +10,7 @@ use Rattle.sheet.specs.Codes.{Amounts}
 use Rattle.sheet.specs.declared.fault.SheetFault.{SheetFault}
 use Rattle.sheet.specs.Outlines.{IfAmounts}
 use Rattle.sheet.specs.Told.{fault_of}
-use Rattle.sheet.specs.Told as sheet-told
+use Rattle.sheet.specs.Told as sheet_told
 use Rattle.sheet.specs.Sheets.{Entry, calls_in, entries_of, performed, after_answer, then, located, run, reading, concluded, read_sheet}
 use Rattle.sheet.specs.Sheets.Entry.{asks, wrong}
 use Rattle.history.specs.Deeds.{Deed, Action, Answer, accepted, refused}
@@ -95,23 +95,23 @@ abbrev pub Read : Coding → (cells : ℕ) → List ℕ → List Deed → State 
 Read K cells bytes past t a = (after : List Deed) × Step K.arithmetic (sheet_of K) cells past (reads bytes) (read_ended a) after × Stands K.arithmetic after t
 
 -- a read, by what it comes to
-pub reads_sheet : (K : Coding) → Lawful K.arithmetic → (cells : ℕ) (bytes : List ℕ) (past : List Deed) (s t : State) (answer : Result (Unit {0}) SheetFault) → Stands K.arithmetic past s → reading (sheet-told.answered answer) t ≡ read_sheet K cells bytes s → IfAmounts K.arithmetic answer (calls_in (entries_of K bytes)) → Read K cells bytes past t answer
+pub reads_sheet : (K : Coding) → Lawful K.arithmetic → (cells : ℕ) (bytes : List ℕ) (past : List Deed) (s t : State) (answer : Result (Unit {0}) SheetFault) → Stands K.arithmetic past s → reading (sheet_told.answered answer) t ≡ read_sheet K cells bytes s → IfAmounts K.arithmetic answer (calls_in (entries_of K bytes)) → Read K cells bytes past t answer
 reads_sheet K law cells bytes past s t answer st e fit = by_run (run K.arithmetic cells (entries_of K bytes) s) refl e
   where
-    accepted_read : (u : State) → run K.arithmetic cells (entries_of K bytes) s ≡ Ok u → (a : Result (Unit {0}) SheetFault) → IfAmounts K.arithmetic a (calls_in (entries_of K bytes)) → sheet-told.answered a ≡ Ok tt → t ≡ u → Read K cells bytes past t a
+    accepted_read : (u : State) → run K.arithmetic cells (entries_of K bytes) s ≡ Ok u → (a : Result (Unit {0}) SheetFault) → IfAmounts K.arithmetic a (calls_in (entries_of K bytes)) → sheet_told.answered a ≡ Ok tt → t ≡ u → Read K cells bytes past t a
     accepted_read u done (Ok x) fit p q = let (after, h, k) = read_whole law (sheet_of K) cells (entries_of K bytes) fit past s u st done in (after, sheet_taken h, subst (Stands K.arithmetic after) (sym q) k)
     accepted_read u done (Err f) fit p q = never (cc)
 
-    refused_read : (f : Fault) → run K.arithmetic cells (entries_of K bytes) s ≡ Err f → (a : Result (Unit {0}) SheetFault) → sheet-told.answered a ≡ Err f → t ≡ s → Read K cells bytes past t a
+    refused_read : (f : Fault) → run K.arithmetic cells (entries_of K bytes) s ≡ Err f → (a : Result (Unit {0}) SheetFault) → sheet_told.answered a ≡ Err f → t ≡ s → Read K cells bytes past t a
     refused_read f done (Ok x) p q = never (cc)
     refused_read f done (Err g) p q = let (part, h) = read_stopped law (sheet_of K) cells (entries_of K bytes) past s (fault_of g) (st.few, st.count) (cc) in (past, sheet_turned_down h, subst (Stands K.arithmetic past) (sym q) st)
 
-    by_run : (r : Result State Fault) → run K.arithmetic cells (entries_of K bytes) s ≡ r → reading (sheet-told.answered answer) t ≡ concluded s r → Read K cells bytes past t answer
+    by_run : (r : Result State Fault) → run K.arithmetic cells (entries_of K bytes) s ≡ r → reading (sheet_told.answered answer) t ≡ concluded s r → Read K cells bytes past t answer
     by_run (Ok u) done e = accepted_read u done answer fit (ap (λ x. x.answer) e) (ap (λ x. x.after) e)
     by_run (Err f) done e = refused_read f done answer (ap (λ x. x.answer) e) (ap (λ x. x.after) e)
 
 -- as an action, with its answer
-pub reads_takes : (K : Coding) → Lawful K.arithmetic → (cells : ℕ) (bytes : List ℕ) (c : Action) (answer : Answer) (past : List Deed) (s t : State) (r : Result (Unit {0}) SheetFault) → c ≡ reads bytes → answer ≡ read_ended r → Stands K.arithmetic past s → reading (sheet-told.answered r) t ≡ read_sheet K cells bytes s → IfAmounts K.arithmetic r (calls_in (entries_of K bytes)) →
+pub reads_takes : (K : Coding) → Lawful K.arithmetic → (cells : ℕ) (bytes : List ℕ) (c : Action) (answer : Answer) (past : List Deed) (s t : State) (r : Result (Unit {0}) SheetFault) → c ≡ reads bytes → answer ≡ read_ended r → Stands K.arithmetic past s → reading (sheet_told.answered r) t ≡ read_sheet K cells bytes s → IfAmounts K.arithmetic r (calls_in (entries_of K bytes)) →
     (after : List Deed) × Step K.arithmetic (sheet_of K) cells past c answer after × Stands K.arithmetic after t
 reads_takes K law cells bytes c answer past s t r is told st e fit =
     subst (λ (x : Action). (after : List Deed) × Step K.arithmetic (sheet_of K) cells past x answer after × Stands K.arithmetic after t) (sym is)

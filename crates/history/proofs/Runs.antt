@@ -41,8 +41,8 @@ module _ {A : Arithmetic} (law : Lawful A) {sheet : List ℕ → List Entry} {ce
       none (suc k) = refl
 
   -- one action more
-  pub ran_next : (actions : List Action) (c : Action) (answer : Answer) (slots before after : List Answer) (place place-before place_after : List ℕ) (s t : State) → Takes A sheet cells c answer s t → after ≡ set before (length actions) answer → Written answer place-before place_after → Ran A sheet cells actions slots before place place-before s → Ran A sheet cells (actions ++ c ∷ []) slots after place place_after t
-  ran_next actions c answer slots before after place place-before place_after s t takes wrote shown had =
+  pub ran_next : (actions : List Action) (c : Action) (answer : Answer) (slots before after : List Answer) (place place_before place_after : List ℕ) (s t : State) → Takes A sheet cells c answer s t → after ≡ set before (length actions) answer → Written answer place_before place_after → Ran A sheet cells actions slots before place place_before s → Ran A sheet cells (actions ++ c ∷ []) slots after place place_after t
+  ran_next actions c answer slots before after place place_before place_after s t takes wrote shown had =
       let (past, step, st) = takes had.past had.stands in
       let newest : reverse (actions ++ c ∷ []) ≡ c ∷ reverse actions = reverse-append actions (c ∷ []) in
       let history : History A sheet cells (reverse (actions ++ c ∷ [])) (answer ∷ had.answers) past = subst (λ (l : List Action). History A sheet cells l (answer ∷ had.answers) past) (sym newest) (next had.history step) in
@@ -70,9 +70,9 @@ module _ {A : Arithmetic} (law : Lawful A) {sheet : List ℕ → List Entry} {ce
           ∙ sym (noted_more (reverse had.answers) answer slots) ∙ ap (λ z. noted z slots) (sym (reverse-append (answer ∷ []) had.answers))
 
   -- one call more of a list of calls
-  pub ran_turn : {C : Type 0} (f : C → Action) (calls : List C) (k : ℕ) (x : C) (answer : Answer) (slots before after : List Answer) (place place-before place_after : List ℕ) (s t : State) → k < length calls → x ≡ get_or calls k x → Takes A sheet cells (f x) answer s t → after ≡ set before k answer → Written answer place-before place_after → Ran A sheet cells (map f (take k calls)) slots before place place-before s → Ran A sheet cells (map f (take (k + 1) calls)) slots after place place_after t
-  ran_turn f calls k x answer slots before after place place-before place_after s t h is takes wrote shown had =
+  pub ran_turn : {C : Type 0} (f : C → Action) (calls : List C) (k : ℕ) (x : C) (answer : Answer) (slots before after : List Answer) (place place_before place_after : List ℕ) (s t : State) → k < length calls → x ≡ get_or calls k x → Takes A sheet cells (f x) answer s t → after ≡ set before k answer → Written answer place_before place_after → Ran A sheet cells (map f (take k calls)) slots before place place_before s → Ran A sheet cells (map f (take (k + 1) calls)) slots after place place_after t
+  ran_turn f calls k x answer slots before after place place_before place_after s t h is takes wrote shown had =
       let many : length (map f (take k calls)) ≡ k = length-map (take k calls) f ∙ length-take k calls ∙ (omega arith) in
       let more : map f (take (k + 1) calls) ≡ map f (take k calls) ++ f x ∷ [] = ap (map f) (take_more calls k x h) ∙ ap (λ y. map f (take k calls ++ y ∷ [])) (sym is) ∙ map-append f (take k calls) (x ∷ []) in
       subst (λ (l : List Action). Ran A sheet cells l slots after place place_after t) (sym more)
-      (ran_next (map f (take k calls)) (f x) answer slots before after place place-before place_after s t takes (wrote ∙ ap (λ m. set before m answer) (sym many)) shown had)
+      (ran_next (map f (take k calls)) (f x) answer slots before after place place_before place_after s t takes (wrote ∙ ap (λ m. set before m answer) (sym many)) shown had)

@@ -41,7 +41,7 @@ pub record Truly (A : Arithmetic) (past : List Deed) (i j : ℕ) (told : Asked) 
   pub calm : told.is_closed ≡ true → (loop : List ℕ) → ¬ (UnderZero A (InForce A past) loop)
 
 -- a close that is given this place, as it is after the close
-pub record Closing (A : Arithmetic) (past : List Deed) (place : List ℕ) (answer : Result (Unit {0}) Reason) (Closed-after : Bool) : Type 0 where
+pub record Closing (A : Arithmetic) (past : List Deed) (place : List ℕ) (answer : Result (Unit {0}) Reason) (closed_after : Bool) : Type 0 where
   -- the place is too short exactly when it has fewer bytes than there are events
   pub short : (ended answer ≡ refused 5) ↔ (length place < events past)
   -- a contradiction exactly when no schedule keeps every bound in force
@@ -49,19 +49,19 @@ pub record Closing (A : Arithmetic) (past : List Deed) (place : List ℕ) (answe
   -- a contradiction is shown by a loop of bounds in force under zero that names no event twice
   pub loops : ended answer ≡ refused 16 → (m : ℕ) × (answer ≡ Err (contradiction m)) × (m ≤ length place) × Loop A (InForce A past) (take m place)
   -- with no contradiction the net is closed
-  pub closes : events past ≤ length place → (ended answer ≢ refused 16) → (ended answer ≡ accepted) × (Closed-after ≡ true)
+  pub closes : events past ≤ length place → (ended answer ≢ refused 16) → (ended answer ≡ accepted) × (closed_after ≡ true)
 
 -- after these actions on a net just made over a table of that many cells
-pub record Law (A : Arithmetic) (sheet : List ℕ → List Entry) (cells : ℕ) (actions : List Action) (i j : ℕ) (slots slots-after : List Answer) (place-before place : List ℕ) (report : Report) : Type 0 where
+pub record Law (A : Arithmetic) (sheet : List ℕ → List Entry) (cells : ℕ) (actions : List Action) (i j : ℕ) (slots slots_after : List Answer) (place_before place : List ℕ) (report : Report) : Type 0 where
   -- how each action ended, and the accepted calls, both with the newest first; there is no other such history
   pub answers : List Answer
   pub past : List Deed
   pub history : History A sheet cells (reverse actions) answers past
   pub only : (xs : List Answer) (p : List Deed) → History A sheet cells (reverse actions) xs p → (xs ≡ answers) × (p ≡ past)
-  pub told : slots-after ≡ noted (reverse answers) slots
+  pub told : slots_after ≡ noted (reverse answers) slots
   -- the place is as it was behind the events of a loop, and all of it where no close found a contradiction
-  pub rest : drop most_events place ≡ drop most_events place-before
-  pub unwritten : Uncontradicted (ended report.closing ∷ answers) → place ≡ place-before
+  pub rest : drop most_events place ≡ drop most_events place_before
+  pub unwritten : Uncontradicted (ended report.closing ∷ answers) → place ≡ place_before
   -- after each of the actions a closed net has no loop under zero
   pub calm : (k : ℕ) (xs : List Answer) (p : List Deed) → History A sheet cells (reverse (take k actions)) xs p → Calm A p
   -- what the net tells then, how a close ends, and what the net tells after it

@@ -58,11 +58,11 @@ module _ (A : Arithmetic) where
   Takes sheet cells c answer s t = (past : List Deed) → Stands past s → (after : List Deed) × Step A sheet cells past c answer after × Stands after t
 
   -- a net just made, after these actions, whose answers were noted in slots and whose loops were shown in a place
-  pub record Ran (sheet : List ℕ → List Entry) (cells : ℕ) (actions : List Action) (slots slots-after : List Answer) (place place_after : List ℕ) (s : State) : Type 0 where
+  pub record Ran (sheet : List ℕ → List Entry) (cells : ℕ) (actions : List Action) (slots slots_after : List Answer) (place place_after : List ℕ) (s : State) : Type 0 where
     pub answers : List Answer
     pub past : List Deed
     pub history : History A sheet cells (reverse actions) answers past
-    pub told : slots-after ≡ noted (reverse answers) slots
+    pub told : slots_after ≡ noted (reverse answers) slots
     pub rest : drop most_events place_after ≡ drop most_events place
     pub unwritten : Uncontradicted answers → place_after ≡ place
     pub calm : (k : ℕ) (xs : List Answer) (p : List Deed) → History A sheet cells (reverse (take k actions)) xs p → Calm A p

@@ -1,6 +1,6 @@
 -- One bound more in the sum of a row of bounds.
 use Rattle.std.proofs.Common.{◌≡◌, ℕ, ◌+◌, ◌*◌, ◌^◌, ◌<◌, ◌≤◌, List, length, get_or, take, ℤ, fold, sym, ap, ◌∙◌, subst, arith}
-use Rattle.std.specs.List.{AllByRecursion as All}
+use Rattle.std.specs.List.{AllByRecursion}
 use Rattle.std.proofs.lemmas.List.Sums.{fold_more}
 use Rattle.std.proofs.ByRecursion.{All-get_or}
 use Rattle.kinds.specs.Arithmetic.{Arithmetic, Lawful, Amount}
@@ -11,7 +11,7 @@ module _ (A : Arithmetic) (L : Lawful A) {K : Type 0} (amount : K → List ℤ) 
   total_next xs i x s r within read was is =
       is ∙ ap (λ t. A.plus t (amount x)) was ∙ ap (λ y. A.plus (fold (λ t b. A.plus t (amount b)) A.zero (take i xs)) (amount y)) read ∙ sym (fold_more (λ t b. A.plus t (amount b)) A.zero xs i x within)
 
-  pub item_small : (xs : List K) (i : ℕ) (x : K) (m : ℕ) → i < length xs → x ≡ get_or xs i x → All (λ b. A.size (amount b) ≤ m) xs → A.size (amount x) ≤ m
+  pub item_small : (xs : List K) (i : ℕ) (x : K) (m : ℕ) → i < length xs → x ≡ get_or xs i x → AllByRecursion (λ b. A.size (amount b) ≤ m) xs → A.size (amount x) ≤ m
   item_small xs i x m within read small = subst (λ y. A.size (amount y) ≤ m) (sym read) (All-get_or (λ b. A.size (amount b) ≤ m) xs i x within small)
 
   pub size_next : (s x r : List ℤ) (i : ℕ) → Amount A s → Amount A x → r ≡ A.plus s x → A.size s ≤ i * 2 ^ 40 → A.size x ≤ 2 ^ 40 → A.size r ≤ (i + 1) * 2 ^ 40

@@ -1,6 +1,6 @@
 -- The sum of a row of bounds.
 use Rattle.std.specs.Prelude.{◌^◌, ◌≤◌, List, ℤ, fold}
-use Rattle.std.specs.List.{AllByRecursion as All}
+use Rattle.std.specs.List.{AllByRecursion}
 use Rattle.kinds.specs.Arithmetic.{Arithmetic}
 
 module _ {K : Type 0} (A : Arithmetic) (amount : K → List ℤ) where
@@ -10,4 +10,4 @@ module _ {K : Type 0} (A : Arithmetic) (amount : K → List ℤ) where
 
   -- each has a size of at most 2^40
   abbrev pub AllSmall : List K → Type 0
-  AllSmall bounds = All (λ b. A.size (amount b) ≤ 2 ^ 40) bounds
+  AllSmall bounds = AllByRecursion (λ b. A.size (amount b) ≤ 2 ^ 40) bounds

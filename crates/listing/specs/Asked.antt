@@ -6,7 +6,7 @@ use Rattle.walks.specs.Bounds.{InForce}
 use Rattle.walks.specs.Walks.{Loop}
 use Rattle.net.specs.declared.mode.Mode.TheVariants.{Closed}
 use Rattle.net.specs.declared.net.Net.{Net}
-use Rattle.net.specs.Kept as net-kept
+use Rattle.net.specs.Kept as net_kept
 use Rattle.net.specs.State.{State, state}
 use Rattle.listing.specs.Listings.{micros, counts_in, contradicts}
 
@@ -23,7 +23,7 @@ state_of net = state amount net
 
 -- what a net keeps to from its making on
 abbrev pub Kept : Net Micros → Type 0
-Kept net = net-kept.Kept micros amount net
+Kept net = net_kept.Kept micros amount net
 
 -- closed with its counts, or a loop of so many events in the place
 abbrev pub Closes : Net Micros → Net Micros → List ℕ → Result Counts ℕ → Type 0

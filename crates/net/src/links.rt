@@ -6,7 +6,7 @@ ghost use Rattle.order.specs.Neighbours.{graph_of};
 ghost use Rattle.order.specs.Counted.{counts_of};
 ghost use Rattle.order.specs.Ranking.{Ranked, ranking};
 ghost use Rattle.table.specs.Cells.{bounds};
-ghost use Rattle.table.specs.Cells as cells-spec;
+ghost use Rattle.table.specs.Cells as cells_spec;
 
 use kinds::kind::Kind;
 use marks::set::Marks;
@@ -23,7 +23,7 @@ fn linked<K: Kind>(cells: &[Cell<K>], n: usize, i: usize, j: usize) -> bool
     requires fits { n * n ≤ length cells.now }
     requires row { i < n }
     requires column { j < n }
-    ensures { result ≡ cells-spec.neighbours (bounds K.Kind.amount n cells.now) i j }
+    ensures { result ≡ cells_spec.neighbours (bounds K.Kind.amount n cells.now) i j }
 {
     if i == j {
         return false;
@@ -41,7 +41,7 @@ fn neighbours<K: Kind>(cells: &[Cell<K>], n: usize, i: usize) -> Marks
     requires few { n ≤ 128 }
     requires fits { n * n ≤ length cells.now }
     requires row { i < n }
-    ensures { (q : ℕ) → has result q ≡ cells-spec.neighbours (bounds K.Kind.amount n cells.now) i q }
+    ensures { (q : ℕ) → has result q ≡ cells_spec.neighbours (bounds K.Kind.amount n cells.now) i q }
 {
     let mut marks = Marks::none();
     for j in 0..n {
@@ -56,7 +56,7 @@ fn neighbours<K: Kind>(cells: &[Cell<K>], n: usize, i: usize) -> Marks
 fn gather<K: Kind>(cells: &[Cell<K>], near: &mut [Marks])
     requires few { length near.old ≤ 128 }
     requires fits { length near.old * length near.old ≤ length cells.now }
-    ensures { (i j : ℕ) → graph_of near.new i j ≡ cells-spec.neighbours (bounds K.Kind.amount (length near.old) cells.now) i j }
+    ensures { (i j : ℕ) → graph_of near.new i j ≡ cells_spec.neighbours (bounds K.Kind.amount (length near.old) cells.now) i j }
 {
     let n = near.len();
     for i in 0..n {
@@ -69,8 +69,8 @@ pub fn by_fewest<K: Kind>(cells: &[Cell<K>], n: usize) -> EventOrder
     requires few { n ≤ 128 }
     requires fits { n * n ≤ length cells.now }
     ensures sized { result.count ≡ n }
-    ensures value { events_of result ≡ ranking n (cells-spec.neighbours (bounds K.Kind.amount n cells.now)) n }
-    ensures ruled { Ranked n (cells-spec.neighbours (bounds K.Kind.amount n cells.now)) (events_of result) }
+    ensures value { events_of result ≡ ranking n (cells_spec.neighbours (bounds K.Kind.amount n cells.now)) n }
+    ensures ruled { Ranked n (cells_spec.neighbours (bounds K.Kind.amount n cells.now)) (events_of result) }
 {
     let mut near = [Marks::none(); 128];
     let part = &mut near[..n];
@@ -81,7 +81,7 @@ pub fn by_fewest<K: Kind>(cells: &[Cell<K>], n: usize) -> EventOrder
 // What an elimination in the ordering counts.
 pub fn counts<K: Kind>(cells: &[Cell<K>], order: &EventOrder) -> Counts
     requires fits { order.now.count * order.now.count ≤ length cells.now }
-    ensures value { result ≡ counts_of order.now.count (cells-spec.neighbours (bounds K.Kind.amount order.now.count cells.now)) (events_of order.now) }
+    ensures value { result ≡ counts_of order.now.count (cells_spec.neighbours (bounds K.Kind.amount order.now.count cells.now)) (events_of order.now) }
     ensures bounded { result.looks ≤ result.width * order.now.count * (order.now.count - 1) / 2 }
 {
     let mut near = [Marks::none(); 128];

@@ -66,7 +66,7 @@ with_one false b c h = absurd (both_ways false refl h)
 pub pairing_turn : (sets : List Marks) (members rest rest' seen seen' news : Marks) (total d e : ℕ) → e < 128 → has rest e ≡ true → ((q : ℕ) → q < e → has rest q ≡ false)
     → ((q : ℕ) → has rest' q ≡ (has rest q && not (eqb q e))) → ((q : ℕ) → has news q ≡ (has seen q && not (graph_of sets e q))) → ((q : ℕ) → has seen' q ≡ (has seen q || eqb q e))
     → d ≡ how_many (has news) 128 → d ≤ 128 → Pairing sets members rest seen total → Pairing sets members rest' seen' (total + d)
-pairing_turn sets members rest rest' seen seen' news total d e small on low f g s de small-d h =
+pairing_turn sets members rest rest' seen seen' news total d e small on low f g s de small_d h =
     let p : ℕ → ℕ → Bool = not_joined (graph_of sets) (has members) in
     let mine : has members e ≡ true = h.part e on in
     let still : (q : ℕ) → has rest' q ≡ true → has rest q ≡ true = λ q r. (and_parts (has rest q) (not (eqb q e)) (sym (f q) ∙ r)).0 in
@@ -81,7 +81,7 @@ pairing_turn sets members rest rest' seen seen' news total d e small on low f g 
     let now_seen : has seen' e ≡ true = s e ∙ or_right (has seen e) (eqb e e) (eq-eqb e e refl) in
     let past : (k : ℕ) → ((q : ℕ) → q < k → has rest' q ≡ false) → (i : ℕ) → suc e ≤ i → i < k → has members i ≡ false = λ k lo i a b. ⊎_elim
     (λ m. let t : has seen' i ≡ true = seen_is' i ∙ ap₂ (λ x y. x && not y) m (lo i b) in
-    absurd (⊎_elim (λ old-one. omega (arith, h.ascending i e old-one on)) (λ same. omega (arith, eqb-true i e same)) (or_cases (has seen i) (eqb i e) (sym (s i) ∙ t))))
+    absurd (⊎_elim (λ old_one. omega (arith, h.ascending i e old_one on)) (λ same. omega (arith, eqb-true i e same)) (or_cases (has seen i) (eqb i e) (sym (s i) ∙ t))))
     (λ m. m) (cases_Bool (has members i)) in
     record {
       part = λ q r. h.part q (still q r);

@@ -9,7 +9,7 @@ ghost use Rattle.sheet.specs.Records.{asked};
 ghost use Rattle.sheet.specs.RoundTrips.{RewrittenBack};
 ghost use Rattle.sheet.specs.Sheets.{entry, entries_of, performed, entered, run, calls_of, performed_all, reading, read_sheet};
 ghost use Rattle.sheet.specs.Told.{coding, asking, record_fault};
-ghost use Rattle.sheet.specs.Told.{answered as faults-told};
+ghost use Rattle.sheet.specs.Told.{answered as faults_told};
 
 use super::fault::{RecordFault, SheetFault};
 use super::form::{Request, request_of};
@@ -115,7 +115,7 @@ fn check<K: Kind>(outline: Outline, sheet: &[u8]) -> Result<(), SheetFault>
 
 // Reads a sheet into the net, and alters it only if the whole sheet is accepted.
 pub fn read<K: Kind>(net: &mut Net<'_, K>, sheet: &[u8]) -> Result<(), SheetFault>
-    ensures reading { reading (faults-told result) (state K.Kind.amount net.new) ≡ read_sheet (coding K.Kind.arithmetic K.Kind.number K.Kind.width K.Kind.encoded K.Kind.decoded) (room net.old) sheet.now (state K.Kind.amount net.old) }
+    ensures reading { reading (faults_told result) (state K.Kind.amount net.new) ≡ read_sheet (coding K.Kind.arithmetic K.Kind.number K.Kind.width K.Kind.encoded K.Kind.decoded) (room net.old) sheet.now (state K.Kind.amount net.old) }
     ensures untouched { Untouched result net.old net.new }
     ensures calls { AsCalls result (performed_all K.Kind.arithmetic (room net.old) (calls_of (coding K.Kind.arithmetic K.Kind.number K.Kind.width K.Kind.encoded K.Kind.decoded) sheet.now) (state K.Kind.amount net.old)) (state K.Kind.amount net.new) }
     ensures again { RewrittenBack (coding K.Kind.arithmetic K.Kind.number K.Kind.width K.Kind.encoded K.Kind.decoded) result (state K.Kind.amount net.new) }

@@ -1,6 +1,6 @@
 -- The whole table is computed at once; a lemma gives each entry.
 use Rattle.std.proofs.Common.{◌≡◌, List, [], ◌∷◌, map, refl}
-use Rattle.std.specs.List.{AllByRecursion as All}
+use Rattle.std.specs.List.{AllByRecursion}
 use Rattle.kinds.specs.Bytes.{whole_of}
 use Rattle.marks.specs.Sets.{how_many}
 use Rattle.order.specs.Orderings.{numbers}
@@ -16,6 +16,6 @@ pub computes : map computed table ≡ map expected_of table
 unfolding whole_of how_many numbers after pairs width_of fill_of looks_of best ranking begun required arranged ranked said next_at entries performed_all
 computes = refl
 
-pub all_equal : (f g : Row → Found) (rows : List Row) → map f rows ≡ map g rows → All (λ r. f r ≡ g r) rows
+pub all_equal : (f g : Row → Found) (rows : List Row) → map f rows ≡ map g rows → AllByRecursion (λ r. f r ≡ g r) rows
 all_equal f g [] e = tt
 all_equal f g (r ∷ rs) e = let head : f r ≡ g r = cc in let tail : map f rs ≡ map g rs = cc in (head, all_equal f g rs tail)

@@ -5,7 +5,7 @@ use Rattle.kinds.specs.Bytes.{row_bytes, row_of}
 use Rattle.order.specs.declared.counts.Counts.{Counts}
 use Rattle.sheet.specs.Records.{Coding, Asked, begin, require}
 use Rattle.sheet.specs.Sheets.{calls_of}
-use Rattle.std.specs.List.{AllByRecursion as All}
+use Rattle.std.specs.List.{AllByRecursion}
 use Rattle.worked.specs.Examples.{Example, Found, found}
 
 -- whole microseconds, as a sheet writes them
@@ -102,4 +102,4 @@ abbrev pub expected_of : Row → Found
 expected_of r = r.expected
 
 abbrev pub ExamplesHold : Type 0
-ExamplesHold = All (λ r. computed r ≡ expected_of r) table
+ExamplesHold = AllByRecursion (λ r. computed r ≡ expected_of r) table
