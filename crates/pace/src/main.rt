@@ -133,22 +133,14 @@ enum Task {
     Floyd,
 }
 
-fn task_of(word: &str) -> Option<Task> {
-    match word {
-        "build" => Some(Task::Build),
-        "close" => Some(Task::Close),
-        "floyd" => Some(Task::Floyd),
-        _ => None,
+fn task_of(word: &str) -> Task {
+    if word == "close" {
+        return Task::Close;
     }
-}
-
-fn shape_of(word: &str) -> Option<Shape> {
-    for shape in SHAPES.iter() {
-        if word == name_of(*shape) {
-            return Some(*shape);
-        }
+    if word == "floyd" {
+        return Task::Floyd;
     }
-    None
+    Task::Build
 }
 
 fn once(rt: &HostRuntime, shape: Shape, task: Task) -> anyhow::Result<()> {
@@ -171,44 +163,22 @@ fn once(rt: &HostRuntime, shape: Shape, task: Task) -> anyhow::Result<()> {
     Ok(())
 }
 
-fn explain(rt: &HostRuntime) -> anyhow::Result<()> {
-    println!(rt; "pace | pace time | pace SHAPE build | pace SHAPE close | pace SHAPE floyd")?;
-    Ok(())
-}
-
-// One word: `time`, for all shapes.
-fn run_word(rt: &HostRuntime, word: &str) -> anyhow::Result<()> {
-    if word != "time" {
-        return explain(rt);
-    }
-    for shape in SHAPES.iter() {
-        time(rt, *shape)?;
-    }
-    Ok(())
-}
-
-// Two words: a shape and what to do with it once.
-fn run_once(rt: &HostRuntime, name: &str, what: &str) -> anyhow::Result<()> {
-    match (shape_of(name), task_of(what)) {
-        (Some(shape), Some(task)) => once(rt, shape, task),
-        _ => explain(rt),
-    }
-}
-
 fn run(rt: &HostRuntime) -> anyhow::Result<()> {
     let mut words = env::args(rt)?.skip(1);
     let first = words.next();
     let second = words.next();
-    match (&first, &second) {
-        (None, _) => {
-            for shape in SHAPES.iter() {
-                compare(rt, *shape)?;
+    for shape in SHAPES.iter() {
+        match (&first, &second) {
+            (None, _) => compare(rt, *shape)?,
+            (Some(_), None) => time(rt, *shape)?,
+            (Some(name), Some(what)) => {
+                if name.as_str() == name_of(*shape) {
+                    once(rt, *shape, task_of(what.as_str()))?;
+                }
             }
-            Ok(())
         }
-        (Some(word), None) => run_word(rt, word.as_str()),
-        (Some(name), Some(what)) => run_once(rt, name.as_str(), what.as_str()),
     }
+    Ok(())
 }
 
 fn main(rt: HostRuntime) -> anyhow::Result<()> {
