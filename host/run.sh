@@ -5,12 +5,13 @@
 set -eu
 cd "$(dirname "$0")/.."
 
-rt check windows
-rt staticlib poychare
-archive=target/staticlib/libpoychare.a
-windows=target/bin/windows
 out=target/host
+archive=$out/libpoychare.a
+windows=crates/windows/out/windows
 mkdir -p "$out"
+(cd crates/windows && rt run <../../sheets/worked.sheet)
+(cd crates/poychare_c && rt lib)
+cp crates/poychare_c/out/libpoychare_c.a "$archive"
 head -c 16385 /dev/zero >"$out/too_long.sheet"
 : >"$out/empty.sheet"
 
