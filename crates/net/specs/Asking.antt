@@ -55,6 +55,12 @@ abbrev pub WalkTold : {E : Type 0} → Arithmetic → State → (i j : ℕ) → 
 WalkTold A s i j before after (Ok told) = Walked A s i j before after told
 WalkTold A s i j before after (Err e) = after ≡ before
 
+-- what a walk leaves of the place, whatever the net holds
+abbrev pub WalkRest : {E : Type 0} → ℕ → (before after : List ℕ) → Result (Option ℕ) E → Type 0
+WalkRest n before after (Ok None) = after ≡ before
+WalkRest n before after (Ok (Some m)) = (m ≤ n) × (drop m after ≡ drop m before)
+WalkRest n before after (Err e) = after ≡ before
+
 -- times are asked for: refused by 6 where the net is not closed, by 5 where the place is too short
 unfoldable pub times_asked : (place : ℕ) → State → Result (Unit {0}) Reason
 times_asked place s = cond (shut s.mode) (placed s.events place) (Err (by 6))
@@ -64,6 +70,11 @@ abbrev pub Timed : {K E : Type 0} → Arithmetic → (K → List ℤ) → State 
 Timed A amount s before after (Ok x) =
     ((j : ℕ) → j < s.events → amount_of amount (slice_get after j) ≡ time A s.events s.bounds j) × (drop s.events after ≡ drop s.events before)
 Timed A amount s before after (Err e) = after ≡ before
+
+-- what times leave of the place, whatever the net holds
+abbrev pub TimesRest : {K E : Type 0} → ℕ → (before after : List K) → Result (Unit {0}) E → Type 0
+TimesRest n before after (Ok x) = drop n after ≡ drop n before
+TimesRest n before after (Err e) = after ≡ before
 
 -- the place sets a schedule that keeps every bound in force
 pub record Schedules {K : Type 0} (A : Arithmetic) (amount : K → List ℤ) (s : State) (place : List K) : Type 0 where

@@ -1,5 +1,5 @@
 // How a net is closed.
-ghost use Rattle.std.specs.Prelude.{◌≡◌, ◌-◌, ◌*◌, ◌/◌, ◌≤◌, ◌↔◌, length, IfOk, Err};
+ghost use Rattle.std.specs.Prelude.{◌≡◌, ◌-◌, ◌*◌, ◌/◌, ◌<◌, ◌≤◌, ◌↔◌, length, IfOk, Err};
 ghost use Rattle.walks.specs.Bounds.{InForce};
 ghost use Rattle.walks.specs.Walks.{Schedule};
 ghost use Rattle.net.specs.State.{state, room, Sound};
@@ -16,6 +16,7 @@ impl<'t, K: Kind> Net<'t, K> {
     // Closes the net and tells the counts; or, where the bounds contradict, writes a loop at the start of the place.
     pub fn close(&mut self, place: &mut [u8]) -> Result<Counts, Refusal>
         ensures outcome { Sound K.Kind.arithmetic (state K.Kind.amount self.old) → closing (numbered result) (state K.Kind.amount self.new) ≡ closed K.Kind.arithmetic (length place.old) (state K.Kind.amount self.old) }
+        ensures short { (numbered result ≡ Err 5) ↔ (length place.old < (state K.Kind.amount self.old).events) }
         ensures schedules { Sound K.Kind.arithmetic (state K.Kind.amount self.old) → (state K.Kind.amount self.old).events ≤ length place.old → (numbered result ≡ Err 16) ↔ ¬ (Schedule K.Kind.arithmetic (InForce (state K.Kind.amount self.old).bounds)) }
         ensures shows { Sound K.Kind.arithmetic (state K.Kind.amount self.old) → Shown K.Kind.arithmetic (state K.Kind.amount self.old).bounds place.new (carried result) }
         ensures rest { Rest (state K.Kind.amount self.old).events place.old place.new (carried result) }

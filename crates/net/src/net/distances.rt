@@ -9,7 +9,7 @@ ghost use Rattle.net.specs.Refusals.{answered};
 ghost use Rattle.net.specs.State.{state};
 ghost use Rattle.net.specs.Told.{amounts_told};
 ghost use Rattle.net.specs.Kept.{Kept};
-ghost use Rattle.net.specs.Asking.{asked, done, pair_asked, distance_told, window_told, ends_told, walk_asked, WalkTold};
+ghost use Rattle.net.specs.Asking.{asked, done, pair_asked, distance_told, window_told, ends_told, walk_asked, WalkRest, WalkTold};
 
 use super::super::mode::Mode;
 use super::super::refusal::Refusal;
@@ -45,6 +45,7 @@ impl<'t, K: Kind> Net<'t, K> {
     // Writes the events of one walk of least sum from i to j, none twice, and tells their number.
     pub fn walk(&self, i: usize, j: usize, place: &mut [u8]) -> Result<Option<usize>, Refusal>
         ensures refused { done (answered result) ≡ walk_asked i j (length place.old) (state K.Kind.amount self.now) }
+        ensures rest { WalkRest (state K.Kind.amount self.now).events place.old place.new result }
         ensures told { Kept K.Kind.arithmetic K.Kind.amount self.now → WalkTold K.Kind.arithmetic (state K.Kind.amount self.now) i j place.old place.new result }
     {
         let n = self.events;
