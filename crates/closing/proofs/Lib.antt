@@ -1,3 +1,4 @@
+pub mod Choosing
 pub mod Pushes
 pub mod Telling
 pub mod Traces

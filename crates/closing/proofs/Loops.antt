@@ -1,5 +1,5 @@
 -- The loop that is shown.
-use Rattle.std.proofs.Common.{◌≡◌, ℕ, suc, ◌<◌, ◌≤◌, List, [], ◌∷◌, length, take, set, ℤ, sym, refl, ap, ◌∙◌, subst, inl, inr, eq-or-lt_of_le, arith}
+use Rattle.std.proofs.Common.{◌≡◌, ℕ, suc, ◌<◌, ◌≤◌, List, [], ◌∷◌, length, take, set, ℤ, sym, refl, ◌∙◌, subst, inl, inr, eq-or-lt_of_le, arith}
 use Rattle.kinds.specs.Arithmetic.{Arithmetic, Amount, Lawful}
 use Rattle.elimination.specs.Amounts.{Amounts}
 use Rattle.elimination.specs.Walks.{Walk, Any, Ring}
@@ -9,11 +9,11 @@ use Rattle.elimination.specs.Simple.Row.{stop, on}
 use Rattle.elimination.proofs.Steps.{ring}
 use Rattle.elimination.proofs.Sized.{upper_calm}
 use Rattle.elimination.specs.Held.{Held, nil, plus, le}
-use Rattle.elimination.proofs.Laws.{same, amounts}
+use Rattle.elimination.proofs.Laws.{amounts}
 use Rattle.eliminator.specs.Views.{Grid}
 use Rattle.eliminator.specs.State.{Forced, Works, SameForce, Ready, Stage, Failed}
 use Rattle.closing.specs.Trace.{Names, Calm, Onward, Splits, Shown, Shows, Partway}
-use Rattle.closing.proofs.Traces.{unsplit}
+use Rattle.closing.proofs.Traces.{unsplit, in_parts}
 
 module _ {A : Type 0} {nil : A} {plus : A → A → A} {le : A → A → Type 0} (L : Amounts nil plus le) where
   first_less : (t c d : A) → le t (plus nil c) → le (plus t d) (plus c d)
@@ -22,12 +22,12 @@ module _ {A : Type 0} {nil : A} {plus : A → A → A} {le : A → A → Type 0}
   next_less : (t b e f u z : A) → le u (plus t b) → e ≡ plus b f → le (plus t e) z → le (plus u f) z
   next_less t b e f u z h q l = L.trans _ _ _ (L.mono _ _ f h) (rw (L.assoc t b f, ← q) l)
 
-  turned_row : {E G : ℕ → ℕ → A → Type 0} → ((x y : ℕ) (a : A) → E x y a → G x y a) → {i j : ℕ} {vs : List ℕ} {s : A} → Row nil plus E i vs j s → Row nil plus G i vs j s
+  pub turned_row : {E G : ℕ → ℕ → A → Type 0} → ((x y : ℕ) (a : A) → E x y a → G x y a) → {i j : ℕ} {vs : List ℕ} {s : A} → Row nil plus E i vs j s → Row nil plus G i vs j s
   turned_row f stop = stop
   turned_row f (on e r q) = on (f _ _ _ e) (turned_row f r) q
 
   -- a walk over bounds whose ends are from k on
-  turned_walk : (k : ℕ) {E G : ℕ → ℕ → A → Type 0} → ((x y : ℕ) (a : A) → E x y a → G x y a × (k ≤ y)) → {i j : ℕ} {s : A} → Walk plus E Any i j s → Walk plus G (λ z. k ≤ z) i j s × (k ≤ j)
+  pub turned_walk : (k : ℕ) {E G : ℕ → ℕ → A → Type 0} → ((x y : ℕ) (a : A) → E x y a → G x y a × (k ≤ y)) → {i j : ℕ} {s : A} → Walk plus E Any i j s → Walk plus G (λ z. k ≤ z) i j s × (k ≤ j)
   turned_walk k f (one e) = let (g, h) = f _ _ _ e in (one g, h)
   turned_walk k f (step e p w q) = let (g, h) = f _ _ _ e in let (v, l) = turned_walk k f w in (step g h v q, l)
 
@@ -51,11 +51,7 @@ module _ {K : Type 0} {A : Arithmetic} {amount : K → List ℤ} (n : ℕ) (xs :
       let b : Held A = (amount s.front, proper s.front) in
       let y : Held A = (amount s.back, proper s.back) in
       let (o, ro, lo) = f L k hi i u b t calm (let q = z.low_i in omega arith) (let q = z.low_i in omega arith) (hx, z.within, (s.front, s.front_is, refl)) r in
-      let a = w.2.1 in
-      let j = s.sum_is in
-      let m : w.2.0 ≡ s.sum = cc in
-      let h : e ≡ plus L b y = same L e _ (w.2.2 ∙ ap amount m ∙ s.adds) in
-      (o, y, ro, (z.within, omega arith, (s.back, s.back_is, refl)), next_less (amounts L) u b e y o (plus L c d) lo h l)
+      (o, y, ro, (z.within, omega arith, (s.back, s.back_is, refl)), next_less (amounts L) u b e y o (plus L c d) lo (in_parts L amount b y e w.2 s.sum_is s.adds) l)
 
   pub part_done : (x : ℕ) (vs : List ℕ) → x < n → k ≤ x → Names n vs → ((v : ℕ) → Splits n xs x i v → ⊥) → Partway A amount n xs i k x vs → Shows A amount n xs i k vs
   part_done x vs hx past names none g L hi c d t calm p q neg =

@@ -1,12 +1,13 @@
 -- The walk behind a least sum.
-use Rattle.std.proofs.Common.{◌≡◌, ℕ, ◌<◌, max, ◌≢◌, List, [], ◌∷◌, ℤ, Some, None, Option, sym, refl, ap, ◌∙◌, subst, arith}
-use Rattle.kinds.specs.Arithmetic.{Arithmetic, Amount, Lawful}
+use Rattle.std.proofs.Common.{◌≡◌, ℕ, ◌<◌, max, ◌≢◌, List, [], ◌∷◌, ℤ, Some, None, Option, sym, refl, ◌∙◌, arith}
+use Rattle.kinds.specs.Arithmetic.{Arithmetic, Amount}
 use Rattle.elimination.specs.Simple.Row.{stop}
-use Rattle.elimination.specs.Held.{Held, nil, plus, le}
-use Rattle.elimination.proofs.Laws.{same, amounts}
+use Rattle.elimination.proofs.Order.{le_eq}
+use Rattle.elimination.specs.Held.{Held, nil, plus}
+use Rattle.elimination.proofs.Laws.{amounts}
 use Rattle.eliminator.specs.Views.{Grid}
 use Rattle.closing.specs.Trace.{Onward}
-use Rattle.closing.proofs.Traces.{chain}
+use Rattle.closing.proofs.Traces.{chain, in_parts}
 use Rattle.sweeper.specs.Sums.{Leasts, Leads, Led}
 use Rattle.closing.specs.Walked.{Toward, Walked}
 
@@ -33,10 +34,7 @@ module _ {K : Type 0} {A : Arithmetic} {amount : K → List ℤ} (n : ℕ) (xs :
         let e : Held A = (amount p.back, proper p.back) in
         let (x, rx, lx) = f L h a s b t led calm (λ q. z.off_i (sym q)) (hi, hm, (p.front, p.front_is, refl)) r in
         let (y, ry, ly) = g L 0 h a x e t calm z.off_j (omega arith) (hm, hj, (p.back, p.back_is, refl)) rx in
-        let u = w.2.1 in
-        let k = p.sum_is in
-        let o : w.2.0 ≡ p.sum = cc in
-        (y, ry, chain (amounts L) s b e c x y lx ly (same L c _ (w.2.2 ∙ ap amount o ∙ p.adds)))
+        (y, ry, chain (amounts L) s b e c x y lx ly (in_parts L amount b e c w.2 p.sum_is p.adds))
 
     pub toward_back : j < i → Onward A amount n xs i m us vs → Toward A amount n xs ds m j vs ws → Toward A amount n xs ds i j us ws
     toward_back lt f g L h a s c t led calm d w r =
@@ -46,15 +44,9 @@ module _ {K : Type 0} {A : Arithmetic} {amount : K → List ℤ} (n : ℕ) (xs :
         let e : Held A = (amount p.back, proper p.back) in
         let (x, rx, lx) = f L 0 h a s b t calm (λ q. z.off_i (sym q)) (omega arith) (hi, hm, (p.front, p.front_is, refl)) r in
         let (y, ry, ly) = g L h a x e t led calm z.off_j (hm, hj, (p.back, p.back_is, refl)) rx in
-        let u = w.2.1 in
-        let k = p.sum_is in
-        let o : w.2.0 ≡ p.sum = cc in
-        (y, ry, chain (amounts L) s b e c x y lx ly (same L c _ (w.2.2 ∙ ap amount o ∙ p.adds)))
+        (y, ry, chain (amounts L) s b e c x y lx ly (in_parts L amount b e c w.2 p.sum_is p.adds))
 
   pub walked : (us vs : List ℕ) → us ≡ i ∷ [] → Toward A amount n xs ds i j us vs → Walked A amount n xs ds i j vs
   walked us vs e f L h c t led calm d w =
       let (u, r, l) = f L h i (nil L) c t led calm d w (rw e stop) in
-      (u, r, (amounts L).trans u (plus L (nil L) c) c l (le_of L c))
-    where
-      le_of : (L : Lawful A) (c : Held A) → le A (plus L (nil L) c) c
-      le_of L c = let P : Held A → Type 0 = λ t. le A t c in subst P (sym ((amounts L).unit c)) ((amounts L).refl_le c)
+      (u, r, (amounts L).trans u (plus L (nil L) c) c l (le_eq (amounts L) (plus L (nil L) c) c ((amounts L).unit c)))

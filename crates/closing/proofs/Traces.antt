@@ -1,7 +1,7 @@
 -- What a push does to a row of bounds.
 use Rattle.std.proofs.Common.{◌≡◌, ℕ, ◌<◌, ◌≢◌, List, [], ◌∷◌, ℤ, Some, None, Option, sym, refl, ap, ◌∙◌, subst, arith}
 use native.Mathlib.Decide.{ℕ_discrete}
-use Rattle.kinds.specs.Arithmetic.{Arithmetic, Amount}
+use Rattle.kinds.specs.Arithmetic.{Arithmetic, Amount, Lawful}
 use Rattle.elimination.specs.Amounts.{Amounts}
 use Rattle.elimination.specs.Walks.{Walk, Any}
 use Rattle.elimination.specs.Walks.Walk.{one, step}
@@ -37,6 +37,13 @@ module _ {A : Type 0} {nil : A} {plus : A → A → A} {le : A → A → Type 0}
 pub chain : {A : Type 0} {nil : A} {plus : A → A → A} {le : A → A → Type 0} (L : Amounts nil plus le) (s b e c x y : A) → le x (plus s b) → le y (plus x e) → c ≡ plus b e → le y (plus s c)
 chain {plus = plus} L s b e c x y p q z = L.trans _ _ _ q (L.trans _ _ _ (L.mono _ _ e p) (le_eq L _ _ (L.assoc s b e ∙ ap (plus s) (sym z))))
 
+-- the bound that is held is the sum of its two parts
+pub in_parts : {K : Type 0} {A : Arithmetic} (L : Lawful A) (amount : K → List ℤ) {o : Option K} {sum : K} (b e c : Held A) → (w : K) × (o ≡ Some w) × (c.0 ≡ amount w) → o ≡ Some sum → amount sum ≡ A.plus b.0 e.0 → c ≡ plus L b e
+in_parts L amount {sum = sum} b e c w s adds =
+    let u = w.1 in
+    let one : w.0 ≡ sum = cc in
+    same L c (plus L b e) (w.2 ∙ ap amount one ∙ adds)
+
 module _ {K : Type 0} {A : Arithmetic} {amount : K → List ℤ} (n : ℕ) (xs : Grid K) (i j : ℕ) (hi : i < n) (hj : j < n) where
   -- what is not split is in force
   pub unsplit : (hi' : ℕ) → Traced A amount n hi' xs → i ≢ j → ((v : ℕ) → Splits n xs i j v → ⊥) → (xs i j).worked ≡ (xs i j).bound
@@ -58,8 +65,4 @@ module _ {K : Type 0} {A : Arithmetic} {amount : K → List ℤ} (n : ℕ) (xs :
       let e : Held A = (amount p.back, proper p.back) in
       let (x, rx, lx) = f L lo m a s b t calm (let q = z.low_i in omega arith) (let q = z.low_j in omega arith) (hi, z.within, (p.front, p.front_is, refl)) r in
       let (y, ry, ly) = g L lo m a x e t calm (let q = z.low_j in omega arith) h (z.within, hj, (p.back, p.back_is, refl)) rx in
-      let u = w.2.1 in
-      let k = p.sum_is in
-      let o : w.2.0 ≡ p.sum = cc in
-      let q : c ≡ plus L b e = same L c _ (w.2.2 ∙ ap amount o ∙ p.adds) in
-      (y, ry, chain (amounts L) s b e c x y lx ly q)
+      (y, ry, chain (amounts L) s b e c x y lx ly (in_parts L amount b e c w.2 p.sum_is p.adds))

@@ -1,7 +1,7 @@
 -- From ranks to events, and from the theory of elimination to walks and distances.
-use Rattle.std.proofs.Common.{◌≡◌, ℕ, ◌+◌, ◌*◌, ◌^◌, ◌<◌, ◌≤◌, Bool, true, false, ◌&&◌, ltb, ◌≢◌, ◌⊎◌, List, [], ◌∷◌, ◌++◌, map, length, take, ℤ, Some, None, Option, sym, refl, ap, ◌∙◌, subst, ap₂, inl, inr, arith, length-take-le}
+use Rattle.std.proofs.Common.{◌≡◌, ℕ, ◌+◌, ◌*◌, ◌^◌, ◌<◌, ◌≤◌, Bool, true, false, ◌&&◌, ltb, ◌≢◌, ◌⊎◌, List, [], ◌∷◌, ◌++◌, map, take, ℤ, Some, None, Option, sym, refl, ap, ◌∙◌, subst, ap₂, inl, inr, arith}
 use mathlib.Core.Path.{fun_ext}
-use Rattle.std.proofs.lemmas.Bool.{cases_eq, cases_lt, cases_Bool, ltb-true, lt-ltb}
+use Rattle.std.proofs.lemmas.Bool.{and_parts, cases_eq, cases_lt, cases_Bool, ltb-true, lt-ltb}
 use Rattle.kinds.specs.Arithmetic.{Arithmetic, Amount, AtMost, Lawful}
 use Rattle.kinds.specs.Answers.{pick}
 use Rattle.order.specs.declared.event_order.EventOrder.{EventOrder}
@@ -22,7 +22,6 @@ use Rattle.elimination.specs.Simple.Row.{stop, on as along}
 use Rattle.elimination.specs.Held.{Held, nil, plus, le}
 use Rattle.elimination.proofs.Laws.{same, amounts, measured}
 use Rattle.elimination.proofs.Sized.{swept_small, into_small, out_small}
-use Rattle.elimination.proofs.Short.{pigeons}
 use Rattle.eliminator.specs.Views.{Grid, event_at, rank_at, view}
 use Rattle.eliminator.specs.Begun.{Begun}
 use Rattle.eliminator.specs.State.{Forced, SameForce, Ready, Traced, Stage, Failed}
@@ -34,26 +33,22 @@ use Rattle.closing.specs.Closed.{Holds, Walks}
 use Rattle.eliminator.proofs.Viewing.{view_is, one_rank}
 use Rattle.eliminator.proofs.Visiting.{never}
 use Rattle.eliminator.proofs.Stages.{net, single}
-use Rattle.closing.proofs.Loops.{shown_of}
+use Rattle.closing.proofs.Loops.{turned_row, turned_walk, shown_of}
 
 -- the bounds in force of a table
-and_both : (a b : Bool) → (a && b) ≡ true → (a ≡ true) × (b ≡ true)
-and_both true b e = (refl, e)
-and_both false b e = never e refl
-
 module _ {K : Type 0} (amount : K → List ℤ) where
   amount_some : (o : Option K) (a : List ℤ) → amount_of amount o ≡ Some a → (b : K) × (o ≡ Some b) × (a ≡ amount b)
-  amount_some None a e = let z : ◌≡◌ {A = ℕ} 0 1 = cc in absurd (omega arith)
+  amount_some None a e = cc
   amount_some (Some b) a e = (b, refl, cc)
 
   picked : (t : Bool) (o : Option K) (a : List ℤ) → pick t (amount_of amount o) None ≡ Some a → (t ≡ true) × ((b : K) × (o ≡ Some b) × (a ≡ amount b))
   picked true o a e = (refl, amount_some o a e)
-  picked false o a e = let z : ◌≡◌ {A = ℕ} 0 1 = cc in absurd (omega arith)
+  picked false o a e = cc
 
   pub bounds_some : (n : ℕ) (xs : List (Cell K)) (i j : ℕ) (a : List ℤ) → bounds amount n xs i j ≡ Some a → (i < n) × (j < n) × ((b : K) × ((at_cell n xs i j).bound ≡ Some b) × (a ≡ amount b))
   bounds_some n xs i j a e =
       let (p, q) = picked (ltb i n && ltb j n) (at_cell n xs i j).bound a e in
-      let (u, v) = and_both (ltb i n) (ltb j n) p in
+      let (u, v) = and_parts (ltb i n) (ltb j n) p in
       (ltb-true i n u, ltb-true j n v, q)
 
   pub bounds_at : (n : ℕ) (xs : List (Cell K)) (i j : ℕ) → i < n → j < n → bounds amount n xs i j ≡ amount_of amount (at_cell n xs i j).bound
@@ -64,7 +59,7 @@ module _ {K : Type 0} (amount : K → List ℤ) where
   bounds_same n xs ys f = fun_ext (λ i. fun_ext (λ j. go i j (ltb i n && ltb j n) refl))
     where
       go : (i j : ℕ) (t : Bool) → (ltb i n && ltb j n) ≡ t → pick t (amount_of amount (at_cell n ys i j).bound) None ≡ pick t (amount_of amount (at_cell n xs i j).bound) None
-      go i j true e = let (u, v) = and_both (ltb i n) (ltb j n) e in ap (amount_of amount) (f i j (ltb-true i n u) (ltb-true j n v))
+      go i j true e = let (u, v) = and_parts (ltb i n) (ltb j n) e in ap (amount_of amount) (f i j (ltb-true i n u) (ltb-true j n v))
       go i j false e = refl
 
   pub within_table : (A : Arithmetic) → ((x : K) → Amount A (amount x)) → (n : ℕ) (xs : List (Cell K)) → Within A n (bounds amount n xs)
@@ -176,7 +171,7 @@ module _ {K : Type 0} {A : Arithmetic} (L : Lawful A) (amount : K → List ℤ) 
           | inl q ↦ d q.0
           | inr q ↦
               let (a, k, l) = x.least q.0 q.2 in
-              elim k [ inl m ↦ ne m.0 | inr m ↦ let u = m.1.2.1 in let z : ◌≡◌ {A = ℕ} 0 1 = cc in omega arith ]
+              elim k [ inl m ↦ ne m.0 | inr m ↦ let u = m.1.2.1 in cc ]
         ]
         go (Some b) e =
             let (vs, v) = down (x.sound (amount b, proper b) (inr (ne, (hr, hs, (b, e, refl))))) in (
@@ -267,12 +262,7 @@ ready {K} amount order xs us b apart sized =
         let tie = ties amount order xs us (λ i j p q. ap (λ (c : Cell K). c.bound) (b i j p q)) in
         let f = tie.to i i (amount w) (p, p, (w, e, refl)) in
         let g = apart (event_at order i) in
-        let z : ◌≡◌ {A = ℕ} 0 1 = cc (f, g) in
-        absurd (omega arith)
-
--- at most n events
-pub few_names : (n m : ℕ) (out : List ℕ) → m ≤ length out → Names n (take m out) → m ≤ n
-few_names n m out h names = let l = length-take-le m out h in let p = pigeons n (take m out) names.once names.below in omega arith
+        cc (f, g)
 
 -- what the sweep left of the elimination
 pub traced_same : {K : Type 0} {A : Arithmetic} {amount : K → List ℤ} (n lo : ℕ) (xs ys : Grid K) → SameWork n xs ys → Traced A amount n lo xs → Traced A amount n lo ys
@@ -384,14 +374,6 @@ module _ {K : Type 0} (A : Arithmetic) (amount : K → List ℤ) (proper : (x : 
 
 -- the walk that is told
 module _ {K : Type 0} (A : Arithmetic) (amount : K → List ℤ) (proper : (x : K) → Amount A (amount x)) (order : EventOrder) (xs : List (Cell K)) where
-  turned_row : {E G : ℕ → ℕ → Held A → Type 0} (L : Lawful A) → ((x y : ℕ) (a : Held A) → E x y a → G x y a) → {i j : ℕ} {vs : List ℕ} {s : Held A} → rows.Row (nil L) (plus L) E i vs j s → rows.Row (nil L) (plus L) G i vs j s
-  turned_row L f stop = stop
-  turned_row L f (along e r q) = along (f _ _ _ e) (turned_row L f r) q
-
-  turned_walk : {E G : ℕ → ℕ → Held A → Type 0} (L : Lawful A) → ((x y : ℕ) (a : Held A) → E x y a → G x y a) → {i j : ℕ} {s : Held A} → theory.Walk (plus L) E Any i j s → theory.Walk (plus L) G Any i j s
-  turned_walk L f (one e) = one (f _ _ _ e)
-  turned_walk L f (step e p v q) = step (f _ _ _ e) p (turned_walk L f v) q
-
   pub walk_told : (i j m : ℕ) (vs place : List ℕ) → i < order.count → j < order.count → Names order.count vs → (rank_at order i ≡ rank_at order j → vs ≡ rank_at order i ∷ []) →
       Walked A amount order.count (view order xs) (leasts (view order xs)) (rank_at order i) (rank_at order j) vs → take m place ≡ map (event_at order) vs → Walks A amount order xs i j (take m place)
   walk_told i j m vs place hi hj names lone walked e L holds d at =
@@ -411,8 +393,8 @@ module _ {K : Type 0} (A : Arithmetic) (amount : K → List ℤ) (proper : (x : 
             (subst (λ (y : List ℤ). AtMost A A.zero y) (sym k) (L.reflexive A.zero L.zero_amount)) far
         | inr ne ↦
             let (h, r, l) = walked L 0 (amount d, proper d) holds.traced holds.led
-            (λ x s v. no_loop L amount proper order F us net tie holds.calm x s (turned_walk L (λ r s a e. e.0) v)) ne
+            (λ x s v. no_loop L amount proper order F us net tie holds.calm x s (turned_walk (amounts L) 0 (λ r s a e. (e.0, omega arith)) v).0) ne
             (order.ranks_below i hi, order.ranks_below j hj, (d, ap (λ (c : Cell K). c.distance) (at_events order xs i j hi hj) ∙ at, refl)) in
-            route_shown L amount proper order F us net tie holds.calm (rank_at order i) (rank_at order j) vs h (amount d) (proper d) names (turned_row L (λ x y a e. e.0) r) l far
+            route_shown L amount proper order F us net tie holds.calm (rank_at order i) (rank_at order j) vs h (amount d) (proper d) names (turned_row (amounts L) (λ x y a e. e.0) r) l far
       ] in
       subst (λ (ws : List ℕ). Route A (InForce F) i j ws (amount d)) (sym e) (subst (λ (x : ℕ). Route A (InForce F) x j (map (event_at order) vs) (amount d)) (order.back i hi) (subst (λ (y : ℕ). Route A (InForce F) (event_at order (rank_at order i)) y (map (event_at order) vs) (amount d)) (order.back j hj) end))

@@ -10,6 +10,7 @@ use Rattle.walks.specs.Least.{distance, contradictory}
 use Rattle.eliminator.specs.Views.{view}
 use Rattle.eliminator.specs.State.{Traced}
 use Rattle.sweeper.specs.Sums.{leasts, Led}
+use Rattle.closing.specs.declared.close.Contradiction.{Contradiction}
 
 -- a table that is closed: no contradiction, every distance, and the traces of the walks behind them
 pub record Holds {K : Type 0} (A : Arithmetic) (amount : K → List ℤ) (order : EventOrder) (cells : List (Cell K)) : Type 0 where
@@ -21,19 +22,19 @@ pub record Holds {K : Type 0} (A : Arithmetic) (amount : K → List ℤ) (order 
   pub led : Led A amount order.count (view order cells) (leasts (view order cells))
 
 -- closed, or the loop of a contradiction in the place
-abbrev pub Closes : {K : Type 0} → (A : Arithmetic) → (K → List ℤ) → EventOrder → List (Cell K) → List (Cell K) → List ℕ → Result (Unit {0}) ℕ → Type 0
+abbrev pub Closes : {K : Type 0} → (A : Arithmetic) → (K → List ℤ) → EventOrder → List (Cell K) → List (Cell K) → List ℕ → Result (Unit {0}) Contradiction → Type 0
 Closes A amount order before after place (Ok _) = (contradictory A order.count (bounds amount order.count before) ≡ false) × Holds A amount order after
-Closes A amount order before after place (Err m) = Loop A (InForce (bounds amount order.count before)) (take m place)
+Closes A amount order before after place (Err c) = Loop A (InForce (bounds amount order.count before)) (take c.shown place)
 
 -- for bounds in force that a net accepts
-abbrev pub Ends : {K : Type 0} → (A : Arithmetic) → (K → List ℤ) → EventOrder → List (Cell K) → List (Cell K) → List ℕ → Result (Unit {0}) ℕ → Type 0
+abbrev pub Ends : {K : Type 0} → (A : Arithmetic) → (K → List ℤ) → EventOrder → List (Cell K) → List (Cell K) → List ℕ → Result (Unit {0}) Contradiction → Type 0
 Ends A amount order before after place r =
     Lawful A → Within A order.count (bounds amount order.count before) → Apart (bounds amount order.count before) → Sized A (2 ^ 40) (bounds amount order.count before) → Closes A amount order before after place r
 
 -- the place is as it was behind what was written
-abbrev pub Untouched : ℕ → List ℕ → List ℕ → Result (Unit {0}) ℕ → Type 0
+abbrev pub Untouched : ℕ → List ℕ → List ℕ → Result (Unit {0}) Contradiction → Type 0
 Untouched n before after (Ok _) = after ≡ before
-Untouched n before after (Err m) = (m ≤ n) × (drop m after ≡ drop m before)
+Untouched n before after (Err c) = (c.shown ≤ n) × (drop c.shown after ≡ drop c.shown before)
 
 -- a walk of least sum, where a closed table has one
 abbrev pub Walks : {K : Type 0} → (A : Arithmetic) → (K → List ℤ) → EventOrder → List (Cell K) → ℕ → ℕ → List ℕ → Type 0

@@ -1,5 +1,6 @@
 -- The walk behind a worked bound, and the loop that is shown.
 use Rattle.std.specs.Prelude.{◌≡◌, ℕ, ◌<◌, ◌≤◌, ◌≢◌, List, [], ◌∷◌, ℤ, Some}
+use Rattle.std.specs.Coded.{×_prop, →_prop, Unit-prop, le_prop}
 use Rattle.std.proofs.Math.Decide.{ℕ_discrete}
 use Rattle.kinds.specs.Arithmetic.{Arithmetic, Lawful}
 use Rattle.elimination.specs.Walks.{Walk, Any}
@@ -12,6 +13,13 @@ use Rattle.eliminator.specs.State.{Forced, Works, Traced}
 pub record Names (n : ℕ) (vs : List ℕ) : Type 0 where
   pub once : Distinct vs
   pub below : (x : ℕ) → Member x vs → x < n
+
+distinct_prop : (vs : List ℕ) → IsProp (Distinct vs)
+distinct_prop [] = Unit-prop
+distinct_prop (x ∷ xs) = ×_prop (→_prop (λ (a b : ⊥). absurd a)) (distinct_prop xs)
+
+pub names_prop : (n : ℕ) (vs : List ℕ) → IsProp (Names n vs)
+names_prop n vs p q = λ i. record { once = distinct_prop vs p.once q.once i; below = λ x m. le_prop (p.below x m) (q.below x m) i }
 
 abbrev pub choose : {P : Type 0} → Dec P → List ℕ → List ℕ → List ℕ
 choose (yes p) x y = x

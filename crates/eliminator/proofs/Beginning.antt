@@ -1,6 +1,7 @@
 -- What closing begins with.
-use Rattle.std.proofs.Common.{◌≡◌, ℕ, ◌+◌, ◌*◌, ◌<◌, ◌≤◌, Bool, true, false, ◌||◌, eqb, ◌≢◌, List, length, get_or, set, None, sym, refl, ap, ◌∙◌, subst, ⊎_elim, arith, get_or-set_other, get_or-set_same}
-use Rattle.std.proofs.lemmas.Bool.{cases_eq, eq-eqb}
+use Rattle.std.proofs.Common.{◌≡◌, ℕ, ◌+◌, ◌*◌, ◌<◌, ◌≤◌, ◌≢◌, List, length, get_or, set, None, sym, refl, ap, ◌∙◌, subst, ⊎_elim, arith, get_or-set_other, get_or-set_same}
+use Rattle.std.proofs.lemmas.Bool.{cases_eq}
+use Rattle.std.proofs.lemmas.List.{get_or_read}
 use Rattle.marks.specs.declared.set.Marks.{Marks}
 use Rattle.marks.specs.Sets.{has}
 use Rattle.order.specs.declared.event_order.EventOrder.{EventOrder}
@@ -10,7 +11,6 @@ use Rattle.table.proofs.Tables.{place_below}
 use Rattle.eliminator.specs.Views.{Grid, event_at, view}
 use Rattle.eliminator.specs.Begun.{begun, Begun}
 use Rattle.eliminator.specs.Steps.{marked, Touching, Near}
-use Rattle.eliminator.proofs.Visiting.{never}
 
 -- one more cell begun
 module _ {K : Type 0} (p : ℕ) (xs ys : List (Cell K)) (v : Cell K) (lt : p < length ys) (e : v ≡ begun (get_or ys p empty)) where
@@ -23,25 +23,17 @@ module _ {K : Type 0} (p : ℕ) (xs ys : List (Cell K)) (v : Cell K) (lt : p < l
   pub begun_above : ((q : ℕ) → p ≤ q → get_or ys q empty ≡ get_or xs q empty) → (q : ℕ) → p + 1 ≤ q → get_or (set ys p v) q empty ≡ get_or xs q empty
   begun_above g q h = let off : q ≢ p = omega arith in get_or-set_other ys p q v empty off ∙ g q (omega arith)
 
+-- what is written of a cell, with the rest of an empty one
+pub begun_here : {K : Type 0} (ys : List (Cell K)) (p : ℕ) (old d : Cell K) → p < length ys → old ≡ get_or ys p old → d ≡ empty →
+    record { bound = (get_or ys p old).bound; worked = (get_or ys p old).bound; distance = d.distance; via = d.via; by = d.by } ≡ begun (get_or ys p empty)
+begun_here ys p old d lt is e = let here : get_or ys p old ≡ get_or ys p empty = sym is ∙ get_or_read ys p old lt is empty in rw (here, e) refl
+
 -- the same by rank
 pub begun_view : {K : Type 0} (order : EventOrder) (xs ys : List (Cell K)) → ((p : ℕ) → p < order.count * order.count → get_or ys p empty ≡ begun (get_or xs p empty)) → Begun order.count (view order xs) (view order ys)
 unfolding view
 begun_view order xs ys f i j hi hj = f (event_at order i * order.count + event_at order j) (place_below order.count (event_at order i) (event_at order j) (order.events_below i hi) (order.events_below j hj))
 
--- marks
-or_both : (a b : Bool) → (a || b) ≡ false → (a ≡ false) × (b ≡ false)
-or_both true b e = never refl e
-or_both false b e = (refl, e)
-
-pub mark_more : {K : Type 0} (xs : Grid K) (r s : ℕ) (marks more : Marks) → ((q : ℕ) → has more q ≡ (has marks q || eqb q s)) → ((q : ℕ) → q < s → Touching xs r q (has marks q)) → (q : ℕ) → q < s + 1 → Touching xs r q (has more q)
-mark_more xs r s marks more f t q h e =
-    let (a, b) = or_both (has marks q) (eqb q s) (sym (f q) ∙ e) in
-    ⊎_elim (λ z. never (eq-eqb q s z) b) (λ ne. t q (omega arith) a) (cases_eq q s)
-
-pub mark_same : {K : Type 0} (xs : Grid K) (r s : ℕ) (marks : Marks) (b : Bool) → b ≡ false → Touching xs r s b → ((q : ℕ) → q < s → Touching xs r q (has marks q)) → (q : ℕ) → q < s + 1 → Touching xs r q (has marks q)
-mark_same xs r s marks b e here t q h z =
-    ⊎_elim (λ same. subst (λ (q : ℕ). ((xs r q).bound ≡ None) × ((xs q r).bound ≡ None)) (sym same) (here e)) (λ ne. t q (omega arith) z) (cases_eq q s)
-
+-- the marks of one more rank
 pub marks_row : {K : Type 0} (n : ℕ) (xs : Grid K) (r : ℕ) (near : List Marks) (m : Marks) → r < length near → ((s : ℕ) → s < n → Touching xs r s (has m s)) →
     ((i s : ℕ) → i < r → s < n → Touching xs i s (has (marked near i) s)) → (i s : ℕ) → i < r + 1 → s < n → Touching xs i s (has (marked (set near r m) i) s)
 marks_row n xs r near m lt here t i s h hs e = ⊎_elim

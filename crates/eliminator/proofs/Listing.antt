@@ -1,19 +1,11 @@
 -- A list of members grows by one at each turn.
-use Rattle.std.proofs.Common.{◌≡◌, ℕ, zero, suc, ◌+◌, ◌<◌, ◌≤◌, Bool, true, false, cond, not, ◌&&◌, eqb, ◌≢◌, List, length, get_or, set, sym, ap, ◌∙◌, subst, inl, inr, arith, get_or-set_other, get_or-set_same}
+use Rattle.std.proofs.Common.{◌≡◌, ℕ, zero, suc, ◌+◌, ◌<◌, ◌≤◌, Bool, true, false, cond, not, ◌&&◌, eqb, ◌≢◌, List, length, get_or, set, take, sym, ap, ◌∙◌, subst, inl, inr, arith, get_or-set_other, get_or-set_same}
+use Rattle.std.proofs.lemmas.List.{get_or-take, length-take-le}
 use Rattle.elimination.proofs.Sweep.{up_to}
 use Rattle.marks.specs.declared.set.Marks.{Marks}
 use Rattle.marks.specs.Sets.{has, how_many}
 use Rattle.eliminator.specs.Members.{Lists}
 use Rattle.eliminator.proofs.Visiting.{Seen, Waits, never, seen_more, seen_here, seen_less}
-
-one_at_most : (b : Bool) → ◌≤◌ (cond b 1 0) 1
-one_at_most true = omega arith
-one_at_most false = omega arith
-
-pub count_most : (p : ℕ → Bool) (k : ℕ) → how_many p k ≤ k
-unfolding how_many
-count_most p zero = omega arith
-count_most p (suc k) = omega (arith, count_most p k, one_at_most (p k))
 
 pub list_start : (mine : Marks) (ranks : List ℕ) → Lists (Seen mine mine) ranks 0
 list_start mine ranks = record { member = λ t l. absurd (omega arith); found = λ q s. never s.0 s.1; apart = λ s t l r. absurd (omega arith) }
@@ -43,3 +35,11 @@ list_turn mine rest less ranks m j room w h f l = record {
 
 pub list_done : (mine rest : Marks) (ranks : List ℕ) (m : ℕ) → ((q : ℕ) → has rest q ≡ false) → Lists (Seen mine rest) ranks m → Lists (λ q. has mine q ≡ true) ranks m
 list_done mine rest ranks m e l = record { member = λ t b. (l.member t b).0; found = λ q s. l.found q (s, e q); apart = l.apart }
+
+-- the part of the place that was written
+pub list_taken : (S : ℕ → Type 0) (ranks : List ℕ) (m : ℕ) → m ≤ length ranks → Lists S ranks m → Lists S (take m ranks) (length (take m ranks))
+list_taken S ranks m h l = rw (length-take-le m ranks h) (record {
+  member = λ t b. subst S (sym (get_or-take m ranks t 0 b)) (l.member t b);
+  found = λ q s. let (t, b, e) = l.found q s in (t, b, get_or-take m ranks t 0 b ∙ e);
+  apart = λ s t a b e. l.apart s t a b (sym (get_or-take m ranks s 0 (omega arith)) ∙ e ∙ get_or-take m ranks t 0 b);
+})

@@ -216,6 +216,9 @@ module _ {K : Type 0} {A : Arithmetic} {amount : K → List ℤ} {n k : ℕ} whe
         )
 
 -- the tests: members that wait no more bear
+pub bears_start : {K : Type 0} (A : Arithmetic) (amount : K → List ℤ) (k : ℕ) (mine : Marks) (ys : Grid K) → (x : ℕ) → Seen mine mine x → Bears A amount (ys x k).worked (ys k x).worked
+bears_start A amount k mine ys x s = never s.0 s.1
+
 pub bears_turn : {K : Type 0} (A : Arithmetic) (amount : K → List ℤ) (k i : ℕ) (mine rest less : Marks) (ys : Grid K) → Bears A amount (ys i k).worked (ys k i).worked → ((q : ℕ) → has less q ≡ (has rest q && not (eqb q i))) →
     ((x : ℕ) → Seen mine rest x → Bears A amount (ys x k).worked (ys k x).worked) → (x : ℕ) → Seen mine less x → Bears A amount (ys x k).worked (ys k x).worked
 bears_turn A amount k i mine rest less ys here f before x s = elim (seen_less rest less i f mine x s) [
@@ -224,9 +227,9 @@ bears_turn A amount k i mine rest less ys here f before x s = elim (seen_less re
 ]
 
 -- strangers have no bounds to test
-pub bears_all : {K : Type 0} (A : Arithmetic) (amount : K → List ℤ) (n k : ℕ) (near : List Marks) (mine rest : Marks) (ys : Grid K) → k < n → Lower near k mine → Near n ys near → ((q : ℕ) → has rest q ≡ false) →
-    ((x : ℕ) → Seen mine rest x → Bears A amount (ys x k).worked (ys k x).worked) → (x : ℕ) → x < k → Bears A amount (ys x k).worked (ys k x).worked
-bears_all A amount n k near mine rest ys hk lower marks e f x h = elim (cases_Bool (has mine x)) [
-  | inl a ↦ f x (a, e x)
+pub bears_all : {K : Type 0} (A : Arithmetic) (amount : K → List ℤ) (n k : ℕ) (near : List Marks) (mine : Marks) (ys : Grid K) → k < n → Lower near k mine → Near n ys near →
+    ((x : ℕ) → has mine x ≡ true → Bears A amount (ys x k).worked (ys k x).worked) → (x : ℕ) → x < k → Bears A amount (ys x k).worked (ys k x).worked
+bears_all A amount n k near mine ys hk lower marks f x h = elim (cases_Bool (has mine x)) [
+  | inl a ↦ f x a
   | inr a ↦ λ b c p q s. let w = (marks k x hk (omega arith) (omega arith) (lower.strangers x h a)).0 in let z : ◌≡◌ {A = ℕ} 0 1 = cc in absurd (omega arith)
 ]

@@ -13,7 +13,7 @@ use Rattle.elimination.proofs.Laws.{same, amounts, measured}
 use Rattle.table.specs.declared.cell.Cell.{Cell}
 use Rattle.eliminator.specs.Views.{Grid}
 use Rattle.eliminator.specs.Steps.{Whole}
-use Rattle.eliminator.specs.State.{Forced, Works, SameForce, Ready, Split, Traced, Stage, Bears, Outcome}
+use Rattle.eliminator.specs.State.{Forced, Works, SameForce, Ready, Split, Traced, Stage, Bears}
 
 -- below k and two, or not
 where_is : (k x y : ℕ) → ((x < k) × (y < k) × (x ≢ y)) ⊎ ((k ≤ x) ⊎ ((k ≤ y) ⊎ (x ≡ y)))
@@ -171,15 +171,3 @@ module _ {K : Type 0} {A : Arithmetic} (L : Lawful A) (amount : K → List ℤ) 
       traced = traced_next k ys zs hk p stage.traced;
       kept = kept_next (amounts L) n k stage.kept (tests t) (eliminates p);
     }
-
-pub bears_next : {K : Type 0} (A : Arithmetic) (amount : K → List ℤ) (n k i : ℕ) (ys : Grid K) (a b : Cell K) → a ≡ ys i k → b ≡ ys k i → Bears A amount a.worked b.worked →
-    ((x : ℕ) → x < i → Bears A amount (ys x k).worked (ys k x).worked) →
-    (x : ℕ) → x < i + 1 → Bears A amount (ys x k).worked (ys k x).worked
-bears_next A amount n k i ys a b p q here before x h = elim (up_to i x (omega arith)) [
-  | inl l ↦ before x l
-  | inr e ↦ subst (λ (z : ℕ). Bears A amount (ys z k).worked (ys k z).worked) (sym e) (rw (p, q) at here)
-]
-
-pub closed : {K : Type 0} (A : Arithmetic) (amount : K → List ℤ) (n k : ℕ) (xs ys : Grid K) (b : Option (ℕ × ℕ)) → b ≡ None → k ≡ 0 →
-    ((L : Lawful A) → Ready A amount n xs → Stage L amount n k xs ys) → Outcome A amount n xs ys b
-closed A amount n k xs ys b e z h = subst (Outcome A amount n xs ys) (sym e) (λ L r. rw z at (h L r))

@@ -57,34 +57,3 @@ waits_start mine q h = h
 
 pub seen_none : {X : Type 0} (mine : Marks) (q : ℕ) → Seen mine mine q → X
 seen_none mine q s = never s.0 s.1
-
--- how many wait, without one of them
-count_agree : (p q : ℕ → Bool) (k : ℕ) → ((x : ℕ) → x < k → p x ≡ q x) → how_many p k ≡ how_many q k
-unfolding how_many
-count_agree p q zero h = refl
-count_agree p q (suc k) h = ap₂ (λ x b. x + cond b 1 0) (count_agree p q k (λ x l. h x (omega arith))) (h k (omega arith))
-
-count_without : (p : ℕ → Bool) (e k : ℕ) → p e ≡ true → e < k → how_many (λ x. p x && not (eqb x e)) k + 1 ≡ how_many p k
-unfolding how_many
-count_without p e zero h l = absurd (omega arith)
-count_without p e (suc k) h l = ⊎_elim
-    (λ same.
-    let a : how_many (λ x. p x && not (eqb x e)) k ≡ how_many p k = count_agree _ _ k (λ x m. ap (λ b. p x && not b) (ne_eqb x e (λ s. omega arith)) ∙ keep (p x)) in
-    let b : ◌≡◌ {A = ℕ} (cond (p k && not (eqb k e)) 1 0) 0 = ap (λ b. cond (p k && not b) 1 0) (eq-eqb k e (sym same)) ∙ none (p k) in
-    let d : ◌≡◌ {A = ℕ} (cond (p k) 1 0) 1 = ap (λ x. cond (p x) 1 0) (sym same) ∙ ap (λ b. cond b 1 0) h in
-    omega arith)
-    (λ off.
-    let a : how_many (λ x. p x && not (eqb x e)) k + 1 ≡ how_many p k = count_without p e k h (omega arith) in
-    let b : ◌≡◌ {A = ℕ} (cond (p k && not (eqb k e)) 1 0) (cond (p k) 1 0) = ap (λ b. cond (p k && not b) 1 0) (ne_eqb k e (λ s. off (sym s))) ∙ ap (λ b. cond b 1 0) (keep (p k)) in
-    omega arith)
-    (cases_eq e k)
-  where
-    none : (b : Bool) → ◌≡◌ {A = ℕ} (cond (b && not true) 1 0) 0
-    none true = refl
-    none false = refl
-
--- fewer wait after each turn
-pub fewer : (rest less : Marks) (i : ℕ) → ((q : ℕ) → has less q ≡ (has rest q && not (eqb q i))) → i < 128 → has rest i ≡ true → how_many (has less) 128 < how_many (has rest) 128
-fewer rest less i f l h =
-    let a : how_many (has less) 128 ≡ how_many (λ x. has rest x && not (eqb x i)) 128 = ap (λ p. how_many p 128) (fun_ext f) in
-    omega (arith, count_without (has rest) i 128 h l)

@@ -1,8 +1,11 @@
 -- What the cells hold as the elimination goes on.
-use Rattle.std.specs.Prelude.{◌≡◌, ℕ, suc, ◌+◌, ◌^◌, ◌<◌, ◌≤◌, ◌≢◌, List, ℤ, Some, None, Option}
+use Rattle.std.specs.Prelude.{◌≡◌, ℕ, suc, ◌+◌, ◌^◌, ◌<◌, ◌≤◌, true, ◌≢◌, List, ℤ, Some, None, Ok, Err, Option, Result}
 use Rattle.kinds.specs.Arithmetic.{Arithmetic, AtMost, Lawful}
+use Rattle.marks.specs.declared.set.Marks.{Marks}
+use Rattle.marks.specs.Sets.{has}
 use Rattle.elimination.specs.Walks.{Kept}
 use Rattle.elimination.specs.Held.{nil, plus, le}
+use Rattle.eliminator.specs.declared.eliminate.Failing.{Failing}
 use Rattle.eliminator.specs.Views.{Grid}
 
 -- the bound a is in force from i to j, or was worked out
@@ -57,12 +60,17 @@ pub record Falls {K : Type 0} (A : Arithmetic) (amount : K → List ℤ) (y z : 
 abbrev pub Bears : {K : Type 0} → (A : Arithmetic) → (K → List ℤ) → Option K → Option K → Type 0
 Bears {K} A amount y z = (b c : K) → y ≡ Some b → z ≡ Some c → A.size (amount b) + A.size (amount c) ≤ 2 ^ 60 → AtMost A A.zero (A.plus (amount b) (amount c))
 
+-- of the lower neighbours of rank k the one told falls, or none does
+abbrev pub FirstFailing : {K : Type 0} → (A : Arithmetic) → (K → List ℤ) → Grid K → Marks → ℕ → Option ℕ → Type 0
+FirstFailing A amount xs mine k None = (i : ℕ) → has mine i ≡ true → Bears A amount (xs i k).worked (xs k i).worked
+FirstFailing A amount xs mine k (Some i) = (has mine i ≡ true) × Falls A amount (xs i k).worked (xs k i).worked
+
 pub record Failed {K : Type 0} (A : Arithmetic) (amount : K → List ℤ) (n i k : ℕ) (xs ys : Grid K) : Type 0 where
   pub low : i < k
   pub within : k < n
   pub falls : Falls A amount (ys i k).worked (ys k i).worked
   pub stage : (L : Lawful A) → Ready A amount n xs → Stage L amount n (suc k) xs ys
 
-abbrev pub Outcome : {K : Type 0} → (A : Arithmetic) → (K → List ℤ) → ℕ → Grid K → Grid K → Option (ℕ × ℕ) → Type 0
-Outcome A amount n xs ys None = (L : Lawful A) → Ready A amount n xs → Stage L amount n 0 xs ys
-Outcome A amount n xs ys (Some p) = Failed A amount n p.0 p.1 xs ys
+abbrev pub Outcome : {K : Type 0} → (A : Arithmetic) → (K → List ℤ) → ℕ → Grid K → Grid K → Result (Unit {0}) Failing → Type 0
+Outcome A amount n xs ys (Ok _) = (L : Lawful A) → Ready A amount n xs → Stage L amount n 0 xs ys
+Outcome A amount n xs ys (Err pair) = Failed A amount n pair.low pair.high xs ys

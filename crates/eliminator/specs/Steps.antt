@@ -2,7 +2,7 @@
 use Rattle.std.specs.Prelude.{◌≡◌, ℕ, ◌+◌, ◌^◌, ◌<◌, ◌≤◌, Bool, true, false, ◌≢◌, ◌⊎◌, List, ℤ, Some, None, Option, slice_index_or}
 use Rattle.kinds.specs.Arithmetic.{Arithmetic, AtMost}
 use Rattle.marks.specs.declared.set.Marks.{Marks}
-use Rattle.marks.specs.Sets.{has}
+use Rattle.marks.specs.Sets.{has, no_marks}
 use Rattle.table.specs.declared.cell.Cell.{Cell}
 use Rattle.eliminator.specs.Views.{Grid}
 
@@ -39,7 +39,7 @@ pub record Relaxed {K : Type 0} (A : Arithmetic) (amount : K → List ℤ) (k : 
 
 -- the set of neighbours of rank i among the marks
 abbrev pub marked : List Marks → ℕ → Marks
-marked near i = slice_index_or near i (record { low = 0; high = 0 })
+marked near i = slice_index_or near i no_marks
 
 module _ {K : Type 0} (A : Arithmetic) (amount : K → List ℤ) (n k : ℕ) where
   -- the cell from i to j relaxed by k, and every other as it was

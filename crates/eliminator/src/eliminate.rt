@@ -2,125 +2,92 @@
 ghost use Rattle.std.specs.Prelude.{◌≡◌, ℕ, ◌+◌, ◌*◌, ◌^◌, ◌<◌, ◌≤◌, true, false, T, length, Some, None, MatchOption, slice_index};
 ghost use Rattle.kinds.specs.Arithmetic.{Arithmetic, AtMost};
 ghost use Rattle.marks.specs.Sets.{has};
-ghost use Rattle.eliminator.specs.Views.{view};
+ghost use Rattle.eliminator.specs.Views.{Same, seen};
 ghost use Rattle.eliminator.specs.Members.{Apart, Others};
 ghost use Rattle.eliminator.specs.Steps.{NoShorter, Shorter, OneCell, RowPart, Part, Lower, Near, Joined};
-ghost use Rattle.eliminator.specs.State.{SameForce, Falls, Bears, Outcome};
+ghost use Rattle.eliminator.specs.State.{SameForce, Falls, Bears, FirstFailing, Outcome};
 
 use super::members::list;
 use super::ranks::{at_ranks, put_ranks};
 use kinds::kind::Kind;
 use marks::set::Marks;
-use order::event_order::EventOrder;
-use std::cmp::Ordering;
 use table::cell::Cell;
+use table::lent::Table;
 
 // Whether the sum is less than what is there, or the first.
 pub fn improves<K: Kind>(sum: K, old: Option<K>) -> bool
     ensures yes { T result → (a : K) → old ≡ Some a → AtMost K.Kind.arithmetic (K.Kind.amount a) (K.Kind.amount sum) → ⊥ }
     ensures no { (T result → ⊥) → (a : K) × (old ≡ Some a) × (AtMost K.Kind.arithmetic (K.Kind.amount a) (K.Kind.amount sum)) }
 {
-    match old {
-        None => true,
-        Some(w) => match sum.compare(w) {
-            Ordering::Less => true,
-            Ordering::Equal => false,
-            Ordering::Greater => false,
-        },
-    }
+    old.is_none_or(|old| sum.compare(old).is_lt())
 }
 
 // The sum of two bounds, where it is less than what is there.
+// three bounds as they are: a struct of them would be made and taken apart at each call
 pub fn shorter<K: Kind>(front: Option<K>, back: Option<K>, old: Option<K>) -> Option<K>
     ensures { MatchOption result (NoShorter K.Kind.arithmetic K.Kind.amount front back old) (λ s. Shorter K.Kind.arithmetic K.Kind.amount front back old s) }
 {
     let x = front?;
     let y = back?;
     let s = x.sum(y)?;
+    // an `if`: in the innermost loop, and as short as `then_some`
     if improves(s, old) { Some(s) } else { None }
 }
 
 // The bound from rank i to rank j becomes the lesser of itself and the sum by rank k.
-fn relax_cell<K: Kind>(
-    cells: &mut [Cell<K>],
-    order: &EventOrder,
-    k: usize,
-    i: usize,
-    j: usize,
-    front: Option<K>,
-)
-    requires fits { order.now.count * order.now.count ≤ length cells.old }
-    requires within { k < order.now.count }
+fn relax_cell<K: Kind>(table: &mut Table<'_, K>, k: usize, i: usize, j: usize, front: Option<K>)
+    requires within { k < table.old.order.count }
     requires row { i < k }
     requires column { j < k }
-    requires front { front ≡ (view order.now cells.old i k).worked }
-    ensures long { length cells.new ≡ length cells.old }
-    ensures one { OneCell K.Kind.arithmetic K.Kind.amount order.now.count k i j (view order.now cells.old) (view order.now cells.new) }
+    requires front { front ≡ (seen table.old i k).worked }
+    ensures kept { Same table.old table.new }
+    ensures one { OneCell K.Kind.arithmetic K.Kind.amount table.old.order.count k i j (seen table.old) (seen table.new) }
 {
-    let old = at_ranks(cells, order, i, j);
-    let back = at_ranks(cells, order, k, j);
+    let old = at_ranks(table, i, j);
+    let back = at_ranks(table, k, j);
     if let Some(s) = shorter(front, back.worked, old.worked) {
         let new = Cell {
-            bound: old.bound,
             worked: Some(s),
             via: Some(k as u8),
-            distance: old.distance,
-            by: old.by,
+            ..old
         };
-        put_ranks(cells, order, i, j, new);
+        put_ranks(table, i, j, new);
     }
 }
 
-// The bounds from rank i to the others of the first m ranks become the lesser of themselves and the sums by rank k.
-fn relax_row<K: Kind>(
-    cells: &mut [Cell<K>],
-    order: &EventOrder,
-    k: usize,
-    i: usize,
-    ranks: &[u8],
-    m: usize,
-)
-    requires fits { order.now.count * order.now.count ≤ length cells.old }
-    requires within { k < order.now.count }
+// The bounds from rank i to the others of the ranks become the lesser of themselves and the sums by rank k.
+fn relax_row<K: Kind>(table: &mut Table<'_, K>, k: usize, i: usize, ranks: &[u8])
+    requires within { k < table.old.order.count }
     requires row { i < k }
-    requires room { m ≤ length ranks.now }
-    requires columns { (t : ℕ) → t < m → slice_index ranks.now t < k }
-    requires apart { Apart ranks.now m }
-    ensures long { length cells.new ≡ length cells.old }
-    ensures part { RowPart K.Kind.arithmetic K.Kind.amount order.now.count k i (Others ranks.now m i) (view order.now cells.old) (view order.now cells.new) }
+    requires columns { (t : ℕ) → t < length ranks.now → slice_index ranks.now t < k }
+    requires apart { Apart ranks.now (length ranks.now) }
+    ensures kept { Same table.old table.new }
+    ensures part { RowPart K.Kind.arithmetic K.Kind.amount table.old.order.count k i (Others ranks.now (length ranks.now) i) (seen table.old) (seen table.new) }
 {
-    let front = at_ranks(cells, order, i, k).worked;
-    for t in 0..m {
-        let j = ranks[t] as usize;
+    let front = at_ranks(table, i, k).worked;
+    for rank in ranks {
+        let j = *rank as usize;
         if j != i {
-            relax_cell(cells, order, k, i, j, front);
+            relax_cell(table, k, i, j, front);
         }
     }
 }
 
 // Takes rank k out: each two of its lower neighbours get the bounds by it, and become neighbours.
-fn take_out<K: Kind>(
-    cells: &mut [Cell<K>],
-    order: &EventOrder,
-    near: &mut [Marks],
-    k: usize,
-    mine: Marks,
-)
-    requires fits { order.now.count * order.now.count ≤ length cells.old }
-    requires room { order.now.count ≤ length near.old }
-    requires within { k < order.now.count }
+fn take_out<K: Kind>(table: &mut Table<'_, K>, near: &mut [Marks], k: usize, mine: Marks)
+    requires room { table.old.order.count ≤ length near.old }
+    requires within { k < table.old.order.count }
     requires members { (q : ℕ) → has mine q ≡ true → q < k }
-    ensures long { length cells.new ≡ length cells.old }
-    ensures part { Part K.Kind.arithmetic K.Kind.amount order.now.count k (λ q. has mine q ≡ true) (λ q. has mine q ≡ true) (view order.now cells.old) (view order.now cells.new) }
+    ensures kept { Same table.old table.new }
+    ensures part { Part K.Kind.arithmetic K.Kind.amount table.old.order.count k (λ q. has mine q ≡ true) (λ q. has mine q ≡ true) (seen table.old) (seen table.new) }
     ensures joined { Joined (λ q. has mine q ≡ true) mine near.old near.new }
 {
-    let mut ranks = [0u8; 128];
-    let m = list(mine, &mut ranks);
-    let mut rest = mine;
-    while let Some(i) = rest.first() {
-        rest = rest.without(i);
+    let mut place = [0u8; 128];
+    let ranks = list(mine, &mut place);
+    for i in mine.members() {
+        relax_row(table, k, i, ranks);
+        // joined in the same visit: `join` of the ordering would go through the members once more
         let others = mine.without(i);
-        relax_row(cells, order, k, i, &ranks, m);
         near[i] = near[i].union(others);
     }
 }
@@ -130,36 +97,43 @@ fn falls<K: Kind>(into: Option<K>, out: Option<K>) -> bool
     ensures yes { T result → Falls K.Kind.arithmetic K.Kind.amount into out }
     ensures no { (T result → ⊥) → Bears K.Kind.arithmetic K.Kind.amount into out }
 {
-    match into {
-        None => false,
-        Some(x) => match out {
-            None => false,
-            Some(y) => match x.sum(y) {
-                None => false,
-                Some(s) => match s.compare(K::zero()) {
-                    Ordering::Less => true,
-                    Ordering::Equal => false,
-                    Ordering::Greater => false,
-                },
-            },
-        },
-    }
+    let (Some(into), Some(out)) = (into, out) else {
+        return false;
+    };
+    // by `compare`, as `keepable` does: a method for it would need a contract of its own
+    into.sum(out).is_some_and(|s| s.compare(K::zero()).is_lt())
 }
 
 // The test of a lower neighbour of rank k.
-fn fails<K: Kind>(cells: &[Cell<K>], order: &EventOrder, i: usize, k: usize) -> bool
-    requires fits { order.now.count * order.now.count ≤ length cells.now }
-    requires row { i < order.now.count }
-    requires column { k < order.now.count }
-    ensures yes { T result → Falls K.Kind.arithmetic K.Kind.amount (view order.now cells.now i k).worked (view order.now cells.now k i).worked }
-    ensures no { (T result → ⊥) → Bears K.Kind.arithmetic K.Kind.amount (view order.now cells.now i k).worked (view order.now cells.now k i).worked }
+fn fails<K: Kind>(table: &Table<'_, K>, i: usize, k: usize) -> bool
+    requires row { i < table.now.order.count }
+    requires column { k < table.now.order.count }
+    ensures yes { T result → Falls K.Kind.arithmetic K.Kind.amount (seen table.now i k).worked (seen table.now k i).worked }
+    ensures no { (T result → ⊥) → Bears K.Kind.arithmetic K.Kind.amount (seen table.now i k).worked (seen table.now k i).worked }
 {
-    let into = at_ranks(cells, order, i, k);
-    let out = at_ranks(cells, order, k, i);
+    // two reads, as in `touching`: a function that tells both cells would be no shorter
+    let into = at_ranks(table, i, k);
+    let out = at_ranks(table, k, i);
     falls(into.worked, out.worked)
 }
 
+// The first of the lower neighbours of rank k at which the test fails.
+fn first_failing<K: Kind>(table: &Table<'_, K>, mine: Marks, k: usize) -> Option<usize>
+    requires within { k < table.now.order.count }
+    requires members { (q : ℕ) → has mine q ≡ true → q < k }
+    ensures { FirstFailing K.Kind.arithmetic K.Kind.amount (seen table.now) mine k result }
+{
+    // a loop: `find` would need the clauses of the test on its closure
+    for i in mine.members() {
+        if fails(table, i, k) {
+            return Some(i);
+        }
+    }
+    None
+}
+
 // The neighbours of rank k that are lower.
+// the sets are one slice, asked by index: a struct would hold nothing else
 pub fn lower(near: &[Marks], k: usize) -> Marks
     requires few { k ≤ 128 }
     requires room { k < length near.now }
@@ -168,34 +142,28 @@ pub fn lower(near: &[Marks], k: usize) -> Marks
     near[k].intersection(Marks::all_below(k))
 }
 
-// Takes out the ranks from the highest down; left at the first pair, out and back, that sums to less than zero.
-pub fn eliminate<K: Kind>(
-    cells: &mut [Cell<K>],
-    order: &EventOrder,
-    near: &mut [Marks],
-) -> Option<(usize, usize)>
-    requires fits { order.now.count * order.now.count ≤ length cells.old }
-    requires room { order.now.count ≤ length near.old }
-    requires near { Near order.now.count (view order.now cells.old) near.old }
-    ensures long { length cells.new ≡ length cells.old }
-    ensures same { SameForce order.now.count (view order.now cells.old) (view order.now cells.new) }
-    ensures near { Near order.now.count (view order.now cells.new) near.new }
-    ensures outcome { Outcome K.Kind.arithmetic K.Kind.amount order.now.count (view order.now cells.old) (view order.now cells.new) result }
+// Two ranks whose worked bounds, out and back, sum to less than zero.
+#[derive(Clone, Copy, Debug, PartialEq, Eq)]
+pub struct Failing {
+    pub low: usize,
+    pub high: usize,
+}
+
+// Takes out the ranks from the highest down; left at the first two that fail.
+pub fn eliminate<K: Kind>(table: &mut Table<'_, K>, near: &mut [Marks]) -> Result<(), Failing>
+    requires room { table.old.order.count ≤ length near.old }
+    requires near { Near table.old.order.count (seen table.old) near.old }
+    ensures kept { Same table.old table.new }
+    ensures same { SameForce table.old.order.count (seen table.old) (seen table.new) }
+    ensures near { Near table.old.order.count (seen table.new) near.new }
+    ensures outcome { Outcome K.Kind.arithmetic K.Kind.amount table.old.order.count (seen table.old) (seen table.new) result }
 {
-    let mut failing = None;
-    let mut k = order.count;
-    'ranks: while k > 0 {
-        k -= 1;
+    for k in (0..table.order.count).rev() {
         let mine = lower(near, k);
-        let mut rest = mine;
-        while let Some(i) = rest.first() {
-            rest = rest.without(i);
-            if fails(cells, order, i, k) {
-                failing = Some((i, k));
-                break 'ranks;
-            }
+        if let Some(i) = first_failing(table, mine, k) {
+            return Err(Failing { low: i, high: k });
         }
-        take_out(cells, order, near, k, mine);
+        take_out(table, near, k, mine);
     }
-    failing
+    Ok(())
 }

@@ -5,19 +5,16 @@ ghost use Rattle.eliminator.specs.Members.{Lists};
 
 use marks::set::Marks;
 
-// Writes the members at the start of the list, and tells how many they are.
-pub fn list(mine: Marks, ranks: &mut [u8]) -> usize
-    requires { 128 ≤ length ranks.old }
-    ensures long { length ranks.new ≡ length ranks.old }
-    ensures few { result ≤ 128 }
-    ensures lists { Lists (λ q. has mine q ≡ true) ranks.new result }
+// Writes the members at the start of the place, and tells that part of it. There is no heap to put them on.
+pub fn list<'r>(mine: Marks, place: &'r mut [u8]) -> &'r [u8]
+    requires { 128 ≤ length place.old }
+    ensures { Lists (λ q. has mine q ≡ true) result.now (length result.now) }
 {
-    let mut m = 0;
-    let mut rest = mine;
-    while let Some(j) = rest.first() {
-        rest = rest.without(j);
-        ranks[m] = j as u8;
-        m += 1;
+    // counted by hand: the count is the length that is told at the end
+    let mut count = 0;
+    for rank in mine.members() {
+        place[count] = rank as u8;
+        count += 1;
     }
-    m
+    &place[..count]
 }

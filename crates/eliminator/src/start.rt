@@ -1,16 +1,18 @@
 // The table as closing begins: worked bounds are the bounds in force, and ranks joined by a bound are neighbours.
+// Ranks here, events in the net's links: one function for both takes closures, whose clauses are longer.
 ghost use Rattle.std.specs.Prelude.{◌≡◌, ℕ, ◌*◌, ◌<◌, ◌≤◌, true, false, length, is_some, slice_index_or};
 ghost use Rattle.marks.specs.Sets.{has};
 ghost use Rattle.table.specs.Cells.{empty};
-ghost use Rattle.eliminator.specs.Views.{view};
+ghost use Rattle.eliminator.specs.Views.{Same, seen};
 ghost use Rattle.eliminator.specs.Steps.{marked, Touching, Near};
 ghost use Rattle.eliminator.specs.Begun.{begun, Begun};
 
 use super::ranks::at_ranks;
 use kinds::kind::Kind;
 use marks::set::Marks;
-use order::event_order::EventOrder;
 use table::cell::Cell;
+use table::grid::blank;
+use table::lent::Table;
 
 // The first m cells keep their bounds in force, work starts from these, and all else is gone.
 fn begin<K: Kind>(cells: &mut [Cell<K>], m: usize)
@@ -18,55 +20,44 @@ fn begin<K: Kind>(cells: &mut [Cell<K>], m: usize)
     ensures long { length cells.new ≡ length cells.old }
     ensures begun { (p : ℕ) → p < m → slice_index_or cells.new p empty ≡ begun (slice_index_or cells.old p empty) }
 {
-    for p in 0..m {
-        let old = cells[p];
-        cells[p] = Cell {
-            bound: old.bound,
-            worked: old.bound,
-            via: None,
-            distance: None,
-            by: None,
+    for cell in &mut cells[..m] {
+        *cell = Cell {
+            bound: cell.bound,
+            worked: cell.bound,
+            ..blank()
         };
     }
 }
 
 // Whether a bound is in force between two ranks, either way.
-fn touching<K: Kind>(cells: &[Cell<K>], order: &EventOrder, r: usize, s: usize) -> bool
-    requires fits { order.now.count * order.now.count ≤ length cells.now }
-    requires row { r < order.now.count }
-    requires column { s < order.now.count }
-    ensures { Touching (view order.now cells.now) r s result }
+fn touching<K: Kind>(table: &Table<'_, K>, r: usize, s: usize) -> bool
+    requires row { r < table.now.order.count }
+    requires column { s < table.now.order.count }
+    ensures { Touching (seen table.now) r s result }
 {
-    let out = at_ranks(cells, order, r, s);
-    let back = at_ranks(cells, order, s, r);
+    let out = at_ranks(table, r, s);
+    let back = at_ranks(table, s, r);
     out.bound.is_some() || back.bound.is_some()
 }
 
 // The neighbours of rank r.
-fn neighbours<K: Kind>(cells: &[Cell<K>], order: &EventOrder, r: usize) -> Marks
-    requires fits { order.now.count * order.now.count ≤ length cells.now }
-    requires row { r < order.now.count }
-    ensures { (s : ℕ) → s < order.now.count → Touching (view order.now cells.now) r s (has result s) }
+fn neighbours<K: Kind>(table: &Table<'_, K>, r: usize) -> Marks
+    requires row { r < table.now.order.count }
+    ensures { (s : ℕ) → s < table.now.order.count → Touching (seen table.now) r s (has result s) }
 {
-    let mut marks = Marks::none();
-    for s in 0..order.count {
-        if touching(cells, order, r, s) {
-            marks = marks.with(s);
-        }
-    }
-    marks
+    Marks::of(table.events(), |s| touching(table, r, s))
 }
 
 // Makes the table ready, and marks the neighbours of each rank.
-pub fn start<K: Kind>(cells: &mut [Cell<K>], order: &EventOrder, near: &mut [Marks])
-    requires fits { order.now.count * order.now.count ≤ length cells.old }
-    requires room { order.now.count ≤ length near.old }
-    ensures long { length cells.new ≡ length cells.old }
-    ensures begun { Begun order.now.count (view order.now cells.old) (view order.now cells.new) }
-    ensures near { Near order.now.count (view order.now cells.new) near.new }
+pub fn start<K: Kind>(table: &mut Table<'_, K>, near: &mut [Marks])
+    requires room { table.old.order.count ≤ length near.old }
+    ensures kept { Same table.old table.new }
+    ensures begun { Begun table.old.order.count (seen table.old) (seen table.new) }
+    ensures near { Near table.old.order.count (seen table.new) near.new }
 {
-    begin(cells, order.count * order.count);
-    for r in 0..order.count {
-        near[r] = neighbours(cells, order, r);
+    let n = table.order.count;
+    begin(table.cells, n * n);
+    for (r, marks) in near[..n].iter_mut().enumerate() {
+        *marks = neighbours(table, r);
     }
 }

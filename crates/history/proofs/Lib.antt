@@ -1,6 +1,9 @@
 pub mod Pasts
 pub mod Steps
 pub mod Closings
+pub mod Shown
+pub mod Places
 pub mod Readings
-pub mod Runs
 pub mod Laws
+pub mod Notes
+pub mod Runs

@@ -21,10 +21,13 @@ use Rattle.history.specs.History as history
 use Rattle.history.specs.History.Reading.{whole, further, stopped, faulty}
 use Rattle.history.specs.History.Step.{sheet_taken, sheet_turned_down}
 use Rattle.history.specs.Standing.{ended, counted, Stands}
-use Rattle.history.specs.Told.{read_ended}
+use Rattle.history.specs.Notes.{of_sheet, Note, FirstFault}
+use Rattle.history.specs.Notes.FirstFault.{later, in_call, in_sheet}
+use Rattle.history.specs.Notes.Noting.{accepts, faults}
+use Rattle.history.specs.Runs.{Taken}
 use Rattle.history.specs.SheetCalls.{deed_of, entry_of, sheet_of}
 use Rattle.history.proofs.Pasts.{never}
-use Rattle.history.proofs.Steps.{Good, Tallied, begins, requires, arranges, begins_tallied, requires_tallied, arranges_tallied}
+use Rattle.history.proofs.Steps.{Plain, Good, Tallied, begins, requires, arranges, begins_tallied, requires_tallied, arranges_tallied}
 
 -- the first call of a sheet is an amount's, and so are the others
 abbrev AmountOf : Arithmetic → Asked → Type 0
@@ -69,51 +72,44 @@ module _ {A : Arithmetic} (law : Lawful A) (sheet : List ℕ → List deeds.Entr
       let (one, rest) = first_amount A c (calls_in more) fit in
       entering (performed A cells c s).answer (performed A cells c s).after (performed_good law cells c one past s st) e (λ u. read_whole more rest (deed_of c ∷ past) u t)
     where
-      entering : (a : Result (Unit {0}) Reason) (u : State) → First (needs A cells past (deed_of c)) (ended a) × Stands A (counted (ended a) (deed_of c) past) u → then (located at (after_answer a u)) (run A cells more) ≡ Ok t →
+      entering : (a : Result (Unit {0}) Reason) (u : State) → First (needs A cells past (deed_of c)) (ended a) × Stands A (counted (ended a) (deed_of c) past) u × Plain a → then (located at (after_answer a u)) (run A cells more) ≡ Ok t →
           ((u : State) → Stands A (deed_of c ∷ past) u → run A cells more u ≡ Ok t → Whole (deed_of c ∷ past) more t) → Whole past (asks at c ∷ more) t
       entering (Ok x) u g e go = let (after, h, k) = go u g.1 e in (after, further g.0 h, k)
       entering (Err why) u g e go = not_ok t (in_net why at) (sym e)
 
   -- a refused one
   abbrev Stopped : List Deed → List Entry → Fault → Type 0
-  Stopped past entries f = (part : List Deed) × history.Reading A sheet cells past (map entry_of entries) (refused f.number) part
+  Stopped past entries f = (part : List Deed) × history.Reading A sheet cells past (map entry_of entries) (refused f.number) part × FirstFault A cells past entries f
 
   read_stopped : (entries : List Entry) (past : List Deed) (s : State) (f : Fault) → Tallied past s → run A cells entries s ≡ Err f → Stopped past entries f
   unfolding run
   read_stopped [] past s f st e = not_ok s f e
-  read_stopped (wrong why ∷ more) past s f st e = subst (Stopped past (wrong why ∷ more)) (err_same why f e) (past, faulty)
+  read_stopped (wrong why ∷ more) past s f st e = subst (Stopped past (wrong why ∷ more)) (err_same why f e) (past, faulty, in_sheet)
   read_stopped (asks at c ∷ more) past s f st e =
       entering (performed A cells c s).answer (performed A cells c s).after (performed_tallied A cells c past s st) e (λ u. read_stopped more (deed_of c ∷ past) u f)
     where
-      entering : (a : Result (Unit {0}) Reason) (u : State) → First (needs A cells past (deed_of c)) (ended a) × Tallied (counted (ended a) (deed_of c) past) u → then (located at (after_answer a u)) (run A cells more) ≡ Err f →
+      entering : (a : Result (Unit {0}) Reason) (u : State) → First (needs A cells past (deed_of c)) (ended a) × Tallied (counted (ended a) (deed_of c) past) u × Plain a → then (located at (after_answer a u)) (run A cells more) ≡ Err f →
           ((u : State) → Tallied (deed_of c ∷ past) u → run A cells more u ≡ Err f → Stopped (deed_of c ∷ past) more f) → Stopped past (asks at c ∷ more) f
-      entering (Ok x) u g e go = let (part, h) = go u g.1 e in (part, further g.0 h)
-      entering (Err why) u g e go = subst (Stopped past (asks at c ∷ more)) (err_same (in_net why at) f e) (past, stopped g.0)
+      entering (Ok x) u g e go = let (part, h, k) = go u g.1 e in (part, further g.0 h, later g.0 k)
+      entering (Err why) u g e go = subst (Stopped past (asks at c ∷ more)) (err_same (in_net why at) f e) (subst (λ (x : Reason). Stopped past (asks at c ∷ more) (in_net x at)) (sym g.2.0) (past, stopped g.0, in_call g.0))
 
--- how a read was taken
-abbrev pub Read : Coding → (cells : ℕ) → List ℕ → List Deed → State → Result (Unit {0}) SheetFault → Type 0
-Read K cells bytes past t a = (after : List Deed) × Step K.arithmetic (sheet_of K) cells past (reads bytes) (read_ended a) after × Stands K.arithmetic after t
+-- how a read is noted
+abbrev pub read_note : Result (Unit {0}) SheetFault → Note
+read_note (Ok x) = Ok tt
+read_note (Err fault) = Err (of_sheet (fault_of fault))
 
 -- a read, by what it comes to
-pub reads_sheet : (K : Coding) → Lawful K.arithmetic → (cells : ℕ) (bytes : List ℕ) (past : List Deed) (s t : State) (answer : Result (Unit {0}) SheetFault) → Stands K.arithmetic past s → reading (sheet_told.answered answer) t ≡ read_sheet K cells bytes s → IfAmounts K.arithmetic answer (calls_in (entries_of K bytes)) → Read K cells bytes past t answer
-reads_sheet K law cells bytes past s t answer st e fit = by_run (run K.arithmetic cells (entries_of K bytes) s) refl e
+pub reads_sheet : (K : Coding) → Lawful K.arithmetic → (cells : ℕ) (bytes : List ℕ) (past : List Deed) (place : List ℕ) (s t : State) (answer : Result (Unit {0}) SheetFault) → Stands K.arithmetic past s → reading (sheet_told.answered answer) t ≡ read_sheet K cells bytes s → IfAmounts K.arithmetic answer (calls_in (entries_of K bytes)) → Taken K cells past (reads bytes) (read_note answer) place place t
+reads_sheet K law cells bytes past place s t answer st e fit = by_run (run K.arithmetic cells (entries_of K bytes) s) refl e
   where
-    accepted_read : (u : State) → run K.arithmetic cells (entries_of K bytes) s ≡ Ok u → (a : Result (Unit {0}) SheetFault) → IfAmounts K.arithmetic a (calls_in (entries_of K bytes)) → sheet_told.answered a ≡ Ok tt → t ≡ u → Read K cells bytes past t a
-    accepted_read u done (Ok x) fit p q = let (after, h, k) = read_whole law (sheet_of K) cells (entries_of K bytes) fit past s u st done in (after, sheet_taken h, subst (Stands K.arithmetic after) (sym q) k)
+    accepted_read : (u : State) → run K.arithmetic cells (entries_of K bytes) s ≡ Ok u → (a : Result (Unit {0}) SheetFault) → IfAmounts K.arithmetic a (calls_in (entries_of K bytes)) → sheet_told.answered a ≡ Ok tt → t ≡ u → Taken K cells past (reads bytes) (read_note a) place place t
+    accepted_read u done (Ok x) fit p q = let (after, h, k) = read_whole law (sheet_of K) cells (entries_of K bytes) fit past s u st done in (after, sheet_taken h, accepts, subst (Stands K.arithmetic after) (sym q) k)
     accepted_read u done (Err f) fit p q = never (cc)
 
-    refused_read : (f : Fault) → run K.arithmetic cells (entries_of K bytes) s ≡ Err f → (a : Result (Unit {0}) SheetFault) → sheet_told.answered a ≡ Err f → t ≡ s → Read K cells bytes past t a
+    refused_read : (f : Fault) → run K.arithmetic cells (entries_of K bytes) s ≡ Err f → (a : Result (Unit {0}) SheetFault) → sheet_told.answered a ≡ Err f → t ≡ s → Taken K cells past (reads bytes) (read_note a) place place t
     refused_read f done (Ok x) p q = never (cc)
-    refused_read f done (Err g) p q = let (part, h) = read_stopped law (sheet_of K) cells (entries_of K bytes) past s (fault_of g) (st.few, st.count) (cc) in (past, sheet_turned_down h, subst (Stands K.arithmetic past) (sym q) st)
+    refused_read f done (Err g) p q = let (part, h, k) = read_stopped law (sheet_of K) cells (entries_of K bytes) past s (fault_of g) (st.few, st.count) (cc) in (past, sheet_turned_down h, faults k, subst (Stands K.arithmetic past) (sym q) st)
 
-    by_run : (r : Result State Fault) → run K.arithmetic cells (entries_of K bytes) s ≡ r → reading (sheet_told.answered answer) t ≡ concluded s r → Read K cells bytes past t answer
+    by_run : (r : Result State Fault) → run K.arithmetic cells (entries_of K bytes) s ≡ r → reading (sheet_told.answered answer) t ≡ concluded s r → Taken K cells past (reads bytes) (read_note answer) place place t
     by_run (Ok u) done e = accepted_read u done answer fit (ap (λ x. x.answer) e) (ap (λ x. x.after) e)
     by_run (Err f) done e = refused_read f done answer (ap (λ x. x.answer) e) (ap (λ x. x.after) e)
-
--- as an action, with its answer
-pub reads_takes : (K : Coding) → Lawful K.arithmetic → (cells : ℕ) (bytes : List ℕ) (c : Action) (answer : Answer) (past : List Deed) (s t : State) (r : Result (Unit {0}) SheetFault) → c ≡ reads bytes → answer ≡ read_ended r → Stands K.arithmetic past s → reading (sheet_told.answered r) t ≡ read_sheet K cells bytes s → IfAmounts K.arithmetic r (calls_in (entries_of K bytes)) →
-    (after : List Deed) × Step K.arithmetic (sheet_of K) cells past c answer after × Stands K.arithmetic after t
-reads_takes K law cells bytes c answer past s t r is told st e fit =
-    subst (λ (x : Action). (after : List Deed) × Step K.arithmetic (sheet_of K) cells past x answer after × Stands K.arithmetic after t) (sym is)
-    (subst (λ (x : Answer). (after : List Deed) × Step K.arithmetic (sheet_of K) cells past (reads bytes) x after × Stands K.arithmetic after t) (sym told)
-    (reads_sheet K law cells bytes past s t r st e fit))

@@ -1,5 +1,5 @@
 -- What each call answers, and what it does to how a state stands.
-use Rattle.std.proofs.Common.{◌≡◌, ℕ, ◌<◌, ◌≤◌, Bool, true, false, cond, not, ◌&&◌, eqb, ltb, leb, ◌≢◌, List, [], ◌∷◌, length, ℤ, is_some, Some, None, Option, sym, refl, ◌∙◌, subst, inl, inr, ⊎_elim, arith}
+use Rattle.std.proofs.Common.{◌≡◌, ℕ, ◌<◌, ◌≤◌, Bool, true, false, cond, not, ◌&&◌, eqb, ltb, leb, ◌≢◌, List, [], ◌∷◌, length, ℤ, is_some, Some, None, Ok, Err, Option, Result, lit<, sym, refl, ◌∙◌, subst, inl, inr, ⊎_elim, arith}
 use Rattle.std.proofs.lemmas.Bool.{both_ways, cases_Bool, and_parts, and_from, ltb-true, leb-true, eqb-true, eqb-false, lt-ltb, le-leb, eq-eqb, or_cases, or_left, or_right, not-true, not-false, cond-true, cond-false, cond_both}
 use Rattle.kinds.specs.Arithmetic.{Arithmetic, Amount, AtMost, Lawful}
 use Rattle.walks.specs.Walks.{Member}
@@ -8,6 +8,7 @@ use Rattle.order.specs.declared.event_order.Misordered.TheVariants.{Count, Outsi
 use Rattle.order.specs.Orderings.{among, first_fault, misorder, unless}
 use Rattle.net.specs.declared.mode.Mode.TheVariants.{Open}
 use Rattle.net.specs.Limits.{most_events, cells_needed, most_size}
+use Rattle.net.specs.Refusals.{Reason, by}
 use Rattle.net.specs.State.{State, Outcome, with_bound, lesser, both_events, made, fresh, rebound, reordered, begun, required, withdrawn, lack, ordered_by, arranged, ranked}
 use Rattle.net.specs.State as state
 use Rattle.net.proofs.Soundness.{sound_made, sound_unbound, sound_with, sound_reordered}
@@ -41,32 +42,37 @@ require_parts a b i j v w e = ((cc), (cc), (cc))
 abbrev Relation : Type 1
 Relation = List Deed → State → Type 0
 
+-- a refusal is told by its number alone, and is no contradiction
+abbrev pub Plain : Result (Unit {0}) Reason → Type 0
+Plain (Ok x) = Unit {0}
+Plain (Err why) = (why ≡ by why.number) × (why.number ≢ 16)
+
 -- the answer is the first of these needs that is not met, and the state stands in the past after the call
 abbrev pub Good : Relation → List Deed → Deed → List Need → Outcome → Type 0
-Good S past d ns o = First ns (ended o.answer) × S (counted (ended o.answer) d past) o.after
+Good S past d ns o = First ns (ended o.answer) × S (counted (ended o.answer) d past) o.after × Plain o.answer
 
-asked : (S : Relation) (past : List Deed) (d : Deed) (s : State) → S past s → (t : Bool) (number : ℕ) (P : Type 0) (ns : List Need) (further : Outcome) → (t ≡ true → P) → (t ≡ false → ¬ P) → (P → Good S past d ns further) → Good S past d (need number P ∷ ns) (state.need t number s further)
-asked S past d s st true number P ns further met unmet go = let p = met refl in let (f, g) = go p in (first_met (need number P) ns _ p f, g)
-asked S past d s st false number P ns further met unmet go = (inl (unmet refl, refl), st)
+asked : (S : Relation) (past : List Deed) (d : Deed) (s : State) → S past s → (t : Bool) (number : ℕ) (P : Type 0) (ns : List Need) (further : Outcome) → number < 16 → (t ≡ true → P) → (t ≡ false → ¬ P) → (P → Good S past d ns further) → Good S past d (need number P ∷ ns) (state.need t number s further)
+asked S past d s st true number P ns further low met unmet go = let p = met refl in let (f, g, h) = go p in (first_met (need number P) ns _ p f, g, h)
+asked S past d s st false number P ns further low met unmet go = (inl (unmet refl, refl), st, (refl, λ e. omega arith))
 
 begins_by : (A : Arithmetic) (S : Relation) (cells n : ℕ) (past : List Deed) (s : State) → S past s → (n ≤ most_events → S (begin n ∷ past) (fresh n)) → Good S past (begin n) (needs A cells past (begin n)) (begun cells n s)
 unfolding begun
 begins_by A S cells n past s st done =
-    asked S past (begin n) s st (ltb 0 n && leb n most_events) 1 ((1 ≤ n) × (n ≤ most_events)) (need 2 (cells_needed n ≤ cells) ∷ []) (state.need (leb (cells_needed n) cells) 2 s (state.accepted (fresh n)))
+    asked S past (begin n) s st (ltb 0 n && leb n most_events) 1 ((1 ≤ n) × (n ≤ most_events)) (need 2 (cells_needed n ≤ cells) ∷ []) (state.need (leb (cells_needed n) cells) 2 s (state.accepted (fresh n))) (lit< tt)
     (λ t. let c = and_parts (ltb 0 n) (leb n most_events) t in (ltb-true 0 n c.0, leb-true n most_events c.1))
     (λ t h. both_ways _ t (and_from (ltb 0 n) (leb n most_events) (lt-ltb 0 n h.0) (le-leb n most_events h.1)))
-    (λ range. asked S past (begin n) s st (leb (cells_needed n) cells) 2 (cells_needed n ≤ cells) [] (state.accepted (fresh n))
+    (λ range. asked S past (begin n) s st (leb (cells_needed n) cells) 2 (cells_needed n ≤ cells) [] (state.accepted (fresh n)) (lit< tt)
     (leb-true (cells_needed n) cells)
     (λ t h. both_ways _ t (le-leb (cells_needed n) cells h))
-    (λ fits. (tt, done range.1)))
+    (λ fits. (tt, done range.1, tt)))
 
 -- the tests that require and withdraw begin with
 paired : (S : Relation) (i j : ℕ) (past : List Deed) (d : Deed) (s : State) (ns : List Need) (further : Outcome) → S past s → s.events ≡ events past → ((i < s.events) → (j < s.events) → i ≢ j → Good S past d ns further) → Good S past d (need 3 (Both past i j) ∷ need 4 (i ≢ j) ∷ ns) (state.need (both_events s i j) 3 s (state.need (not (eqb i j)) 4 s further))
 paired S i j past d s ns further st n go =
-    asked S past d s st (both_events s i j) 3 (Both past i j) (need 4 (i ≢ j) ∷ ns) (state.need (not (eqb i j)) 4 s further)
+    asked S past d s st (both_events s i j) 3 (Both past i j) (need 4 (i ≢ j) ∷ ns) (state.need (not (eqb i j)) 4 s further) (lit< tt)
     (λ t. let (p, q) = and_parts (ltb i s.events) (ltb j s.events) t in let u = ltb-true i s.events p in let v = ltb-true j s.events q in (omega arith, omega arith))
     (λ t h. let (p, q) = h in both_ways _ t (and_from (ltb i s.events) (ltb j s.events) (lt-ltb i s.events (omega arith)) (lt-ltb j s.events (omega arith))))
-    (λ both. asked S past d s st (not (eqb i j)) 4 (i ≢ j) ns further
+    (λ both. asked S past d s st (not (eqb i j)) 4 (i ≢ j) ns further (lit< tt)
     (λ t. eqb-false i j (not-true (eqb i j) t))
     (λ t ne. ne (eqb-true i j (not-false (eqb i j) t)))
     (λ ne. let (p, q) = both in go (omega arith) (omega arith) ne))
@@ -76,10 +82,10 @@ unfolding required
 requires_by A S cells i j w past s st n go =
     let done = state.accepted (rebound s i j (Some (lesser A (s.bounds i j) w))) in
     paired S i j past (require i j w) s (need 11 (A.size w ≤ most_size) ∷ []) (state.need (leb (A.size w) most_size) 11 s done) st n (λ p q ne.
-    asked S past (require i j w) s st (leb (A.size w) most_size) 11 (A.size w ≤ most_size) [] done
+    asked S past (require i j w) s st (leb (A.size w) most_size) 11 (A.size w ≤ most_size) [] done (lit< tt)
     (leb-true (A.size w) most_size)
     (λ t h. both_ways _ t (le-leb (A.size w) most_size h))
-    (λ small. (tt, go small p q ne)))
+    (λ small. (tt, go small p q ne, tt)))
 
 -- whether an event stood earlier
 among_member : (xs : List ℕ) (x : ℕ) → among xs x ≡ true → Member x xs
@@ -113,13 +119,18 @@ listed n list few = inside (leb n 128 && eqb (length list) n) refl
     inside true t = first_met (need 13 (length list ≡ n)) (places n [] list) (answer_of (first_fault n [] list)) (eqb-true (length list) n (and_parts (leb n 128) (eqb (length list) n) t).1) (first_place n [] list)
     inside false t = inl ((λ e. both_ways (leb n 128 && eqb (length list) n) t (and_from (leb n 128) (eqb (length list) n) (le-leb n 128 few) (eq-eqb (length list) n e))), refl)
 
+not_sixteen : (why : Misordered) → lack why ≢ 16
+not_sixteen Count e = absurd (omega arith)
+not_sixteen Outside e = absurd (omega arith)
+not_sixteen Again e = absurd (omega arith)
+
 arranges_by : (A : Arithmetic) (S : Relation) (cells : ℕ) (list : List ℕ) (past : List Deed) (s : State) → S past s → s.events ≤ most_events → s.events ≡ events past → S (arrange list ∷ past) (reordered s list) → Good S past (arrange list) (needs A cells past (arrange list)) (arranged list s)
 unfolding arranged
 arranges_by A S cells list past s st few n done = by_fault (misorder s.events list) (subst (λ (n : ℕ). First (need 13 (length list ≡ n) ∷ places n [] list) (answer_of (misorder s.events list))) n (listed s.events list few))
   where
     by_fault : (o : Option Misordered) → First (needs A cells past (arrange list)) (answer_of o) → Good S past (arrange list) (needs A cells past (arrange list)) (ordered_by s (unless list o))
-    by_fault None f = (f, done)
-    by_fault (Some why) f = (f, st)
+    by_fault None f = (f, done, tt)
+    by_fault (Some why) f = (f, st, (refl, not_sixteen why))
 
 module _ {A : Arithmetic} (law : Lawful A) where
   -- a net just made stands in the empty past
@@ -229,17 +240,17 @@ module _ {A : Arithmetic} (law : Lawful A) where
   withdraws cells i j past s st =
       let done = state.accepted (rebound s i j None) in
       paired (Stands A) i j past (withdraw i j) s (need 12 ((w : List ℤ) × InForce A past i j w) ∷ []) (state.need (is_some (s.bounds i j)) 12 s done) st st.count (λ p q ne.
-      asked (Stands A) past (withdraw i j) s st (is_some (s.bounds i j)) 12 ((w : List ℤ) × InForce A past i j w) [] done
+      asked (Stands A) past (withdraw i j) s st (is_some (s.bounds i j)) 12 ((w : List ℤ) × InForce A past i j w) [] done (lit< tt)
       (some_held past i j (s.bounds i j) (st.holds i j))
       (none_held past i j (s.bounds i j) (st.holds i j))
-      (λ some. (tt, stands_withdrawn i j past s p q ne st)))
+      (λ some. (tt, stands_withdrawn i j past s p q ne st, tt)))
 
   pub arranges : (cells : ℕ) (list : List ℕ) (past : List Deed) (s : State) → Stands A past s → Good (Stands A) past (arrange list) (needs A cells past (arrange list)) (arranged list s)
   arranges cells list past s st = arranges_by A (Stands A) cells list past s st st.few st.count (stands_idle (arrange list) (idle_arrange list) (λ p. (refl, refl)) past s list st)
 
   pub ranks : (cells : ℕ) (past : List Deed) (s : State) → Stands A past s → Good (Stands A) past rank (needs A cells past rank) (ranked s)
   unfolding ranked
-  ranks cells past s st = (tt, stands_idle rank idle_rank (λ p. (refl, refl)) past s _ st)
+  ranks cells past s st = (tt, stands_idle rank idle_rank (λ p. (refl, refl)) past s _ st, tt)
 
 -- what is known of a state without the amounts of its bounds
 abbrev pub Tallied : List Deed → State → Type 0

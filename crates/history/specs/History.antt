@@ -107,7 +107,7 @@ module _ (A : Arithmetic) (sheet : List ℕ → List Entry) (cells : ℕ) where
     next : {calls : List Action} {answers : List Answer} {past after : List Deed} {c : Action} {answer : Answer} → History calls answers past → Step past c answer after → History (c ∷ calls) (answer ∷ answers) after
 
 -- the answers noted one by one in the slots for them, as far as there are slots
-abbrev pub noted : List Answer → List Answer → List Answer
+abbrev pub noted : {T : Type 0} → List T → List T → List T
 noted [] slots = slots
 noted (answer ∷ answers) [] = []
 noted (answer ∷ answers) (slot ∷ slots) = answer ∷ noted answers slots

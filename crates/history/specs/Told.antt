@@ -1,17 +1,19 @@
 -- The code's calls and answers, in the words of the law.
-use Rattle.std.specs.Prelude.{ℕ, min, List, ℤ, Ok, Err, Result}
-use Rattle.net.specs.Refusals.{answered}
+use Rattle.std.specs.Prelude.{ℕ, min, List, map, ℤ, Ok, Err, Result}
+use Rattle.net.specs.Refusals.{reason, answered}
 use Rattle.net.specs.Told.{amounts_told}
 use Rattle.net.specs.Asking.{ends_told}
-use Rattle.sheet.specs.declared.fault.SheetFault.{SheetFault}
 use Rattle.sheet.specs.Told.{fault_of}
 use Rattle.history.specs.declared.call.Call.{Call}
 use Rattle.history.specs.declared.call.Call.TheVariants.{Begin, Read, Require, Withdraw, Arrange, Rank, Close}
+use Rattle.history.specs.declared.rejection.Rejection.{Rejection}
+use Rattle.history.specs.declared.rejection.Rejection.TheVariants.{Call as of_net, Sheet}
 use Rattle.history.specs.declared.call.Asked as code
 use Rattle.history.specs.declared.call.Report as reports
-use Rattle.history.specs.Deeds.{Action, Answer, accepted, refused}
+use Rattle.history.specs.Deeds.{Action, Answer}
 use Rattle.history.specs.Deeds.Deed.{begin, require, withdraw, arrange, rank, close}
 use Rattle.history.specs.Deeds.Action.{does, reads}
+use Rattle.history.specs.Notes.{Why, of_call, of_sheet, Note, in_short}
 use Rattle.history.specs.Law.{Asked, Report}
 
 -- a call as an action; a close has of a place of `room` bytes as many as it asks for
@@ -24,10 +26,23 @@ action amount room (Arrange list) = does (arrange list.now)
 action amount room Rank = does rank
 action amount room (Close k) = does (close (min k room))
 
--- how a read ended
-abbrev pub read_ended : Result (Unit {0}) SheetFault → Answer
-read_ended (Ok x) = accepted
-read_ended (Err fault) = refused (fault_of fault).number
+-- the calls of a list as actions
+abbrev pub actions : {K : Type 0} → (K → List ℤ) → (room : ℕ) → List (Call K) → List Action
+actions amount room calls = map (action amount room) calls
+
+-- why a call was refused
+abbrev pub why_of : Rejection → Why
+why_of (of_net why) = of_call (reason why)
+why_of (Sheet fault) = of_sheet (fault_of fault)
+
+-- an answer, with its reason
+abbrev pub note_of : Result (Unit {0}) Rejection → Note
+note_of (Ok x) = Ok tt
+note_of (Err why) = Err (why_of why)
+
+-- an answer, by its number alone
+abbrev pub answer_of : Result (Unit {0}) Rejection → Answer
+answer_of r = in_short (note_of r)
 
 -- answers in amounts
 abbrev pub asked_told : {K : Type 0} → (K → List ℤ) → code.Asked K → Asked

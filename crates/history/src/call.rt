@@ -1,7 +1,7 @@
 // The calls on a net, each with its arguments, and what a net tells after them.
 use net::refusal::Refusal;
 
-#[derive(Clone, Copy)]
+#[derive(Clone, Copy, Debug, PartialEq, Eq)]
 pub enum Call<'c, K> {
     Begin(usize),
     // of a sheet's bytes
@@ -15,15 +15,16 @@ pub enum Call<'c, K> {
 }
 
 // Whether a net is closed, and the distance and the window of two events.
-#[derive(Clone, Copy)]
+#[derive(Clone, Copy, Debug, PartialEq, Eq)]
 pub struct Asked<K> {
+    // a bool, as `is_closed` tells: three questions, each with its own answer
     pub closed: bool,
     pub distance: Result<Option<K>, Refusal>,
     pub window: Result<(Option<K>, Option<K>), Refusal>,
 }
 
 // What a net tells before a close, at the close, and after it.
-#[derive(Clone, Copy)]
+#[derive(Clone, Copy, Debug, PartialEq, Eq)]
 pub struct Report<K> {
     pub before: Asked<K>,
     pub closing: Result<(), Refusal>,

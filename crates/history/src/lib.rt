@@ -3,3 +3,4 @@
 
 pub mod call;
 pub mod performing;
+pub mod rejection;

@@ -1,9 +1,8 @@
 -- Rows keep all laws of a kind. The order is read by cases, which the proofs use.
-use Rattle.std.specs.Prelude.{◌≡◌, ℕ, zero, suc, ◌+◌, ◌≤◌, Bool, true, false, ◌⊎◌, List, [], ◌∷◌, length, ℤ, pos, ◌+ℤ◌, neg_ℤ, ◌≤ℤ◌, ◌<ℤ◌, int_lt, unsigned_abs, refl}
-use Rattle.std.proofs.Common.{ap, sym, ◌∙◌, inl, inr, ⊎_elim, arith}
+use Rattle.std.specs.Prelude.{◌≡◌, ℕ, zero, suc, ◌+◌, ◌≤◌, Bool, true, false, ◌⊎◌, List, [], ◌∷◌, length, ℤ, ◌+ℤ◌, neg_ℤ, ◌<ℤ◌, int_lt, unsigned_abs, refl}
+use Rattle.std.proofs.Common.{ap, ◌∙◌, inl, inr, ⊎_elim, arith}
 use Rattle.std.proofs.Math.IntN.{+ℤ_assoc, +ℤ_comm, +ℤ_idl, +ℤ_invr}
-use Rattle.std.specs.Int.Signed.{lt_z_yes, lt_z_no}
-use Rattle.std.proofs.lemmas.Int.{by_lt_z, ints}
+use Rattle.std.proofs.lemmas.Int.{ints}
 use Rattle.kinds.specs.Arithmetic.{Lawful, Inverse}
 use Rattle.kinds.specs.Answers.{pick}
 use Rattle.kinds.specs.Rows.{rows, row, zeros, plus, minus, at_most, size}
@@ -17,36 +16,29 @@ Under (x ∷ xs) (y ∷ ys) = (x <ℤ y) ⊎ ((x ≡ y) × Under xs ys)
 abbrev Row : ℕ → List ℤ → Type 0
 Row n x = row n x ≡ true
 
-never : {X : Type 0} → false ≡ true → X
-never e = let z : ◌≡◌ {A = ℕ} 0 1 = cc in absurd (omega arith)
+from_test : (a b : ℤ) (r : Bool) → pick (int_lt a b) true (pick (int_lt b a) false r) ≡ true → (a <ℤ b) ⊎ ((a ≡ b) × (r ≡ true))
+from_test a b r e = grind (arith, ints)
 
-from_test : (a b : ℤ) (s t r : Bool) → int_lt a b ≡ s → int_lt b a ≡ t → pick s true (pick t false r) ≡ true → (a <ℤ b) ⊎ ((a ≡ b) × (r ≡ true))
-from_test a b true t r p q e = inl (lt_z_yes (rw p tt))
-from_test a b false true r p q e = never e
-from_test a b false false r p q e =
-    let h : b ≤ℤ a = lt_z_no (rw p tt) in
-    let k : a ≤ℤ b = lt_z_no (rw q tt) in
-    inr (omega (arith, ints), e)
+to_test : (a b : ℤ) (r : Bool) → (a <ℤ b) ⊎ ((a ≡ b) × (r ≡ true)) → pick (int_lt a b) true (pick (int_lt b a) false r) ≡ true
+to_test a b r e = grind (arith, ints)
 
 under : (x y : List ℤ) → at_most x y ≡ true → Under x y
 under [] ys e = tt
-under (x ∷ xs) [] e = never e
-under (x ∷ xs) (y ∷ ys) e = ⊎_elim (λ l. inl l) (λ m. inr (m.0, under xs ys m.1)) (from_test x y (int_lt x y) (int_lt y x) (at_most xs ys) refl refl e)
-
-less_test : (a b : ℤ) (s t r : Bool) → int_lt a b ≡ s → a <ℤ b → pick s true (pick t false r) ≡ true
-less_test a b true t r p h = refl
-less_test a b false t r p h = let k : b ≤ℤ a = lt_z_no (rw p tt) in absurd (omega (arith, ints))
-
-same_test : (a b : ℤ) (s t r : Bool) → int_lt b a ≡ t → a ≡ b → r ≡ true → pick s true (pick t false r) ≡ true
-same_test a b true t r q e h = refl
-same_test a b false true r q e h = let k : b <ℤ a = lt_z_yes (rw q tt) in absurd (omega (arith, ints))
-same_test a b false false r q e h = h
+under (x ∷ xs) [] e = cc
+under (x ∷ xs) (y ∷ ys) e = ⊎_elim (λ l. inl l) (λ m. inr (m.0, under xs ys m.1)) (from_test x y (at_most xs ys) e)
 
 over : (x y : List ℤ) → Under x y → at_most x y ≡ true
 over [] ys u = refl
 over (x ∷ xs) [] u = absurd u
-over (x ∷ xs) (y ∷ ys) (inl l) = less_test x y (int_lt x y) (int_lt y x) (at_most xs ys) refl l
-over (x ∷ xs) (y ∷ ys) (inr m) = same_test x y (int_lt x y) (int_lt y x) (at_most xs ys) refl m.0 (over xs ys m.1)
+over (x ∷ xs) (y ∷ ys) (inl l) = to_test x y (at_most xs ys) (inl l)
+over (x ∷ xs) (y ∷ ys) (inr m) = to_test x y (at_most xs ys) (inr (m.0, over xs ys m.1))
+
+-- induction over the rows of n numbers
+by_row : (P : ℕ → List ℤ → Type 0) → P 0 [] → ((n : ℕ) (a : ℤ) (x : List ℤ) → P n x → P (suc n) (a ∷ x)) → (n : ℕ) (x : List ℤ) → Row n x → P n x
+by_row P base step zero [] p = base
+by_row P base step zero (a ∷ x) p = cc
+by_row P base step (suc n) [] p = cc
+by_row P base step (suc n) (a ∷ x) p = step n a x (by_row P base step n x p)
 
 zeros_row : (n : ℕ) → Row n (zeros n)
 zeros_row zero = refl
@@ -54,28 +46,25 @@ zeros_row (suc n) = zeros_row n
 
 plus_row : (n : ℕ) (x y : List ℤ) → Row n x → Row n y → Row n (plus x y)
 plus_row zero [] y p q = refl
-plus_row zero (a ∷ x) y p q = never p
-plus_row (suc n) [] y p q = never p
-plus_row (suc n) (a ∷ x) [] p q = never q
+plus_row zero (a ∷ x) y p q = cc
+plus_row (suc n) [] y p q = cc
+plus_row (suc n) (a ∷ x) [] p q = cc
 plus_row (suc n) (a ∷ x) (b ∷ y) p q = plus_row n x y p q
 
 plus_assoc : (x y z : List ℤ) → plus (plus x y) z ≡ plus x (plus y z)
 plus_assoc [] y z = refl
 plus_assoc (a ∷ x) [] z = refl
 plus_assoc (a ∷ x) (b ∷ y) [] = refl
-plus_assoc (a ∷ x) (b ∷ y) (c ∷ z) = rw (+ℤ_assoc a b c) (ap (λ t. (a +ℤ (b +ℤ c)) ∷ t) (plus_assoc x y z))
+plus_assoc (a ∷ x) (b ∷ y) (c ∷ z) = rw (+ℤ_assoc a b c, plus_assoc x y z)
 
 plus_comm : (x y : List ℤ) → plus x y ≡ plus y x
 plus_comm [] [] = refl
 plus_comm [] (b ∷ y) = refl
 plus_comm (a ∷ x) [] = refl
-plus_comm (a ∷ x) (b ∷ y) = rw (+ℤ_comm a b) (ap (λ t. (b +ℤ a) ∷ t) (plus_comm x y))
+plus_comm (a ∷ x) (b ∷ y) = rw (+ℤ_comm a b, plus_comm x y)
 
 plus_neutral : (n : ℕ) (x : List ℤ) → Row n x → plus (zeros n) x ≡ x
-plus_neutral zero [] p = refl
-plus_neutral zero (a ∷ x) p = never p
-plus_neutral (suc n) [] p = never p
-plus_neutral (suc n) (a ∷ x) p = rw (+ℤ_idl a) (ap (λ t. a ∷ t) (plus_neutral n x p))
+plus_neutral = by_row (λ n x. plus (zeros n) x ≡ x) refl (λ n a x h. rw (+ℤ_idl a, h))
 
 reflexive : (x : List ℤ) → Under x x
 reflexive [] = tt
@@ -86,42 +75,33 @@ transitive [] y z h k = tt
 transitive (a ∷ x) [] z h k = absurd h
 transitive (a ∷ x) (b ∷ y) [] h k = absurd k
 transitive (a ∷ x) (b ∷ y) (c ∷ z) (inl l) (inl m) = inl (omega (arith, ints))
-transitive (a ∷ x) (b ∷ y) (c ∷ z) (inl l) (inr m) = let e = m.0 in inl (omega (arith, ints))
-transitive (a ∷ x) (b ∷ y) (c ∷ z) (inr l) (inl m) = let e = l.0 in inl (omega (arith, ints))
+transitive (a ∷ x) (b ∷ y) (c ∷ z) (inl l) (inr m) = inl (omega (arith, ints))
+transitive (a ∷ x) (b ∷ y) (c ∷ z) (inr l) (inl m) = inl (omega (arith, ints))
 transitive (a ∷ x) (b ∷ y) (c ∷ z) (inr l) (inr m) = inr (l.0 ∙ m.0, transitive x y z l.1 m.1)
 
-crossed : {X : Type 0} (a b : ℤ) → a <ℤ b → b ≤ℤ a → X
-crossed a b h k = absurd (omega (arith, ints))
-
-antisymmetric : (n : ℕ) (x y : List ℤ) → Row n x → Row n y → Under x y → Under y x → x ≡ y
-antisymmetric zero [] [] p q h k = refl
-antisymmetric zero [] (b ∷ y) p q h k = never q
-antisymmetric zero (a ∷ x) y p q h k = never p
-antisymmetric (suc n) [] y p q h k = never p
-antisymmetric (suc n) (a ∷ x) [] p q h k = never q
-antisymmetric (suc n) (a ∷ x) (b ∷ y) p q (inl l) (inl m) = crossed a b l (omega (arith, ints))
-antisymmetric (suc n) (a ∷ x) (b ∷ y) p q (inl l) (inr m) = let e = m.0 in crossed a b l (omega (arith, ints))
-antisymmetric (suc n) (a ∷ x) (b ∷ y) p q (inr l) (inl m) = let e = l.0 in crossed b a m (omega (arith, ints))
-antisymmetric (suc n) (a ∷ x) (b ∷ y) p q (inr l) (inr m) = rw l.0 (ap (λ t. b ∷ t) (antisymmetric n x y p q l.1 m.1))
+antisymmetric : (x y : List ℤ) → Under x y → Under y x → x ≡ y
+antisymmetric [] [] h k = refl
+antisymmetric [] (b ∷ y) h k = absurd k
+antisymmetric (a ∷ x) [] h k = absurd h
+antisymmetric (a ∷ x) (b ∷ y) (inl l) (inl m) = absurd (omega (arith, ints))
+antisymmetric (a ∷ x) (b ∷ y) (inl l) (inr m) = absurd (omega (arith, ints))
+antisymmetric (a ∷ x) (b ∷ y) (inr l) (inl m) = absurd (omega (arith, ints))
+antisymmetric (a ∷ x) (b ∷ y) (inr l) (inr m) = rw (l.0, antisymmetric x y l.1 m.1)
 
 total_head : (a b : ℤ) (x y : List ℤ) → Under x y ⊎ Under y x → Under (a ∷ x) (b ∷ y) ⊎ Under (b ∷ y) (a ∷ x)
-total_head a b x y t = by_lt_z a b (λ l. inl (inl l)) (λ ge. by_lt_z b a (λ m. inr (inl m)) (λ le. let e : a ≡ b = omega (arith, ints) in ⊎_elim (λ u. inl (inr (e, u))) (λ u. inr (inr (sym e, u))) t))
+total_head a b x y t = grind (arith, ints)
 
-total : (n : ℕ) (x y : List ℤ) → Row n x → Row n y → Under x y ⊎ Under y x
-total zero [] y p q = inl tt
-total zero (a ∷ x) y p q = never p
-total (suc n) [] y p q = never p
-total (suc n) (a ∷ x) [] p q = never q
-total (suc n) (a ∷ x) (b ∷ y) p q = total_head a b x y (total n x y p q)
+total : (x y : List ℤ) → Under x y ⊎ Under y x
+total [] y = inl tt
+total (a ∷ x) [] = inr tt
+total (a ∷ x) (b ∷ y) = total_head a b x y (total x y)
 
-keeps : (n : ℕ) (x y z : List ℤ) → Row n x → Row n y → Row n z → Under x y → Under (plus x z) (plus y z)
-keeps zero [] y z p q r h = tt
-keeps zero (a ∷ x) y z p q r h = never p
-keeps (suc n) [] y z p q r h = never p
-keeps (suc n) (a ∷ x) [] z p q r h = never q
-keeps (suc n) (a ∷ x) (b ∷ y) [] p q r h = never r
-keeps (suc n) (a ∷ x) (b ∷ y) (c ∷ z) p q r (inl l) = inl (omega (arith, ints))
-keeps (suc n) (a ∷ x) (b ∷ y) (c ∷ z) p q r (inr l) = inr (ap (λ t. t +ℤ c) l.0, keeps n x y z p q r l.1)
+keeps : (x y z : List ℤ) → Under x y → Under (plus x z) (plus y z)
+keeps [] y z h = tt
+keeps (a ∷ x) [] z h = absurd h
+keeps (a ∷ x) (b ∷ y) [] h = tt
+keeps (a ∷ x) (b ∷ y) (c ∷ z) (inl l) = inl (omega (arith, ints))
+keeps (a ∷ x) (b ∷ y) (c ∷ z) (inr l) = inr (ap (λ t. t +ℤ c) l.0, keeps x y z l.1)
 
 size_zero : (n : ℕ) → size (zeros n) ≡ 0
 size_zero zero = refl
@@ -132,30 +112,25 @@ size_plus [] y = omega arith
 size_plus (a ∷ x) [] = omega arith
 size_plus (a ∷ x) (b ∷ y) = let h = size_plus x y in omega (arith, ints)
 
-minus_row : (n : ℕ) (x : List ℤ) → Row n x → Row n (minus x)
-minus_row zero [] p = refl
-minus_row zero (a ∷ x) p = never p
-minus_row (suc n) [] p = never p
-minus_row (suc n) (a ∷ x) p = minus_row n x p
-
-plus_minus : (n : ℕ) (x : List ℤ) → Row n x → plus x (minus x) ≡ zeros n
-plus_minus zero [] p = refl
-plus_minus zero (a ∷ x) p = never p
-plus_minus (suc n) [] p = never p
-plus_minus (suc n) (a ∷ x) p = rw (+ℤ_invr a) (ap (λ t. pos 0 ∷ t) (plus_minus n x p))
-
 size_minus : (x : List ℤ) → size (minus x) ≡ size x
 size_minus [] = refl
 size_minus (a ∷ x) = let e : unsigned_abs (neg_ℤ a) ≡ unsigned_abs a = omega (arith, ints) in rw (size_minus x, e)
 
+minus_row : (n : ℕ) (x : List ℤ) → Row n x → Row n (minus x)
+minus_row = by_row (λ n x. Row n (minus x)) refl (λ n a x h. h)
+
+plus_minus : (n : ℕ) (x : List ℤ) → Row n x → plus x (minus x) ≡ zeros n
+plus_minus = by_row (λ n x. plus x (minus x) ≡ zeros n) refl (λ n a x h. rw (+ℤ_invr a, h))
+
 row_long : (n : ℕ) (x : List ℤ) → Row n x → length x ≡ n
-row_long zero [] p = refl
-row_long zero (a ∷ x) p = never p
-row_long (suc n) [] p = never p
-row_long (suc n) (a ∷ x) p = ap suc (row_long n x p)
+row_long = by_row (λ n x. length x ≡ n) refl (λ n a x h. ap suc h)
 
 pub rows_inverse : (n : ℕ) → Inverse (rows n) minus
-rows_inverse n = record { minus_amount = minus_row n; undoes = plus_minus n; minus_size = λ x _. size_minus x }
+rows_inverse n = record {
+  minus_amount = minus_row n;
+  undoes = plus_minus n;
+  minus_size = λ x _. size_minus x;
+}
 
 pub rows_lawful : (n : ℕ) → Lawful (rows n)
 rows_lawful n = record {
@@ -167,9 +142,9 @@ rows_lawful n = record {
   neutral = plus_neutral n;
   reflexive = λ x _. over x x (reflexive x);
   transitive = λ x y z _ _ _ h k. over x z (transitive x y z (under x y h) (under y z k));
-  antisymmetric = λ x y p q h k. antisymmetric n x y p q (under x y h) (under y x k);
-  total = λ x y p q. ⊎_elim (λ h. inl (over x y h)) (λ h. inr (over y x h)) (total n x y p q);
-  keeps = λ x y z p q r h. over (plus x z) (plus y z) (keeps n x y z p q r (under x y h));
+  antisymmetric = λ x y _ _ h k. antisymmetric x y (under x y h) (under y x k);
+  total = λ x y _ _. ⊎_elim (λ h. inl (over x y h)) (λ h. inr (over y x h)) (total x y);
+  keeps = λ x y z _ _ _ h. over (plus x z) (plus y z) (keeps x y z (under x y h));
   size_zero = size_zero n;
   size_plus = λ x y _ _. size_plus x y;
 }

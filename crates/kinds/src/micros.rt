@@ -7,7 +7,7 @@ ghost use Rattle.kinds.specs.RowLaws.{rows_lawful, rows_inverse};
 ghost use Rattle.std.proofs.Common.{rules};
 
 use super::bytes::{get_whole, put_whole};
-use super::kind::{Kind, LARGEST_SUM, WrongLength};
+use super::kind::{Kind, LARGEST_SUM, WrongLength, has_sum};
 use std::cmp::Ordering;
 use std::fmt;
 
@@ -16,7 +16,7 @@ const NUMBER: u8 = 1;
 
 const WIDTH: usize = 8;
 
-#[derive(Clone, Copy)]
+#[derive(Clone, Copy, Debug, PartialEq, Eq, PartialOrd, Ord)]
 pub struct Micros(pub i64);
 
 impl Kind for Micros {
@@ -47,23 +47,15 @@ impl Kind for Micros {
     }
 
     fn sum(self, other: Micros) -> Option<Micros> {
-        let a = self.size();
-        let b = other.size();
-        if a > LARGEST_SUM || b > LARGEST_SUM - a {
-            return None;
-        }
-        Some(Micros(self.0 + other.0))
+        has_sum(self.size(), other.size()).then(|| Micros(self.0 + other.0))
     }
 
     fn opposite(self) -> Option<Micros> {
-        if self.size() > LARGEST_SUM {
-            return None;
-        }
-        Some(Micros(-self.0))
+        (self.size() <= LARGEST_SUM).then(|| Micros(-self.0))
     }
 
     fn compare(self, other: Micros) -> Ordering {
-        self.0.cmp(&other.0)
+        self.cmp(&other)
     }
 
     fn size(self) -> u64 {
@@ -79,24 +71,16 @@ impl Kind for Micros {
     }
 
     fn write(self, out: &mut [u8]) -> Result<(), WrongLength> {
-        if out.len() != WIDTH {
-            return Err(WrongLength);
-        }
-        put_whole(self.0, out);
-        Ok(())
+        put_whole(self.0, out)
     }
 
     fn read(from: &[u8]) -> Option<Micros> {
-        if from.len() != WIDTH {
-            return None;
-        }
-        Some(Micros(get_whole(from)))
+        get_whole(from).map(Micros)
     }
 }
 
 impl fmt::Display for Micros {
     fn fmt<W: fmt::Write>(&self, f: &mut fmt::Formatter<W>) -> fmt::Result {
-        let count = self.0;
-        write!(f, "{count}")
+        write!(f, "{}", self.0)
     }
 }

@@ -7,7 +7,7 @@ ghost use Rattle.kinds.specs.RowLaws.{rows_lawful, rows_inverse};
 ghost use Rattle.std.proofs.Common.{rules};
 
 use super::bytes::{get_whole, put_whole};
-use super::kind::{Kind, LARGEST_SUM, WrongLength};
+use super::kind::{Kind, LARGEST_SUM, WrongLength, has_sum};
 use std::cmp::Ordering;
 use std::fmt;
 
@@ -16,7 +16,8 @@ const NUMBER: u8 = 2;
 
 const WIDTH: usize = 16;
 
-#[derive(Clone, Copy)]
+// Kinds 1 and 2 are no one type of N numbers: hosts name the parts, and the laws are shared already, as `rows n`.
+#[derive(Clone, Copy, Debug, PartialEq, Eq, PartialOrd, Ord)]
 pub struct StrictMicros {
     pub number: i64,
     pub mark: i64,
@@ -50,31 +51,21 @@ impl Kind for StrictMicros {
     }
 
     fn sum(self, other: StrictMicros) -> Option<StrictMicros> {
-        let a = self.size();
-        let b = other.size();
-        if a > LARGEST_SUM || b > LARGEST_SUM - a {
-            return None;
-        }
-        let number = self.number + other.number;
-        let mark = self.mark + other.mark;
-        Some(StrictMicros { number, mark })
+        has_sum(self.size(), other.size()).then(|| StrictMicros {
+            number: self.number + other.number,
+            mark: self.mark + other.mark,
+        })
     }
 
     fn opposite(self) -> Option<StrictMicros> {
-        if self.size() > LARGEST_SUM {
-            return None;
-        }
-        let number = -self.number;
-        let mark = -self.mark;
-        Some(StrictMicros { number, mark })
+        (self.size() <= LARGEST_SUM).then(|| StrictMicros {
+            number: -self.number,
+            mark: -self.mark,
+        })
     }
 
     fn compare(self, other: StrictMicros) -> Ordering {
-        match self.number.cmp(&other.number) {
-            Ordering::Less => Ordering::Less,
-            Ordering::Greater => Ordering::Greater,
-            Ordering::Equal => self.mark.cmp(&other.mark),
-        }
+        self.cmp(&other)
     }
 
     fn size(self) -> u64 {
@@ -93,25 +84,23 @@ impl Kind for StrictMicros {
         if out.len() != WIDTH {
             return Err(WrongLength);
         }
-        put_whole(self.number, &mut out[0..8]);
-        put_whole(self.mark, &mut out[8..16]);
-        Ok(())
+        let (number, mark) = out.split_at_mut(8);
+        put_whole(self.number, number)?;
+        put_whole(self.mark, mark)
     }
 
     fn read(from: &[u8]) -> Option<StrictMicros> {
-        if from.len() != WIDTH {
-            return None;
-        }
-        let number = get_whole(&from[0..8]);
-        let mark = get_whole(&from[8..16]);
-        Some(StrictMicros { number, mark })
+        let (number, mark) = from.split_at_checked(8)?;
+        Some(StrictMicros {
+            number: get_whole(number)?,
+            mark: get_whole(mark)?,
+        })
     }
 }
 
 impl fmt::Display for StrictMicros {
     fn fmt<W: fmt::Write>(&self, f: &mut fmt::Formatter<W>) -> fmt::Result {
-        let number = self.number;
-        let mark = self.mark;
+        let StrictMicros { number, mark } = self;
         write!(f, "({number}, {mark})")
     }
 }

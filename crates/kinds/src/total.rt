@@ -3,7 +3,6 @@ ghost use Rattle.std.specs.Prelude.{◌≡◌, ℕ, ◌+◌, ◌^◌, ◌≤◌,
 ghost use Rattle.kinds.specs.Sums.{sum_of, AllSmall};
 
 use super::kind::Kind;
-use std::cmp::Ordering;
 
 // Exact where it is told, and told for up to 128 bounds of size at most 2^40 each.
 pub fn total<K: Kind>(bounds: &[K]) -> Option<K>
@@ -11,6 +10,7 @@ pub fn total<K: Kind>(bounds: &[K]) -> Option<K>
     ensures told { length bounds.now ≤ 128 → AllSmall K.Kind.arithmetic K.Kind.amount bounds.now → is_some result ≡ true }
 {
     let mut sum = K::zero();
+    // a `for` with `?`: as plain as `try_fold`, with an invariant on what is summed so far
     for b in bounds {
         sum = sum.sum(*b)?;
     }
@@ -22,10 +22,5 @@ pub fn keepable<K: Kind>(bounds: &[K]) -> Option<bool>
     ensures exact { IfSome result (λ b. b ≡ K.Kind.arithmetic.at_most K.Kind.arithmetic.zero (sum_of K.Kind.arithmetic K.Kind.amount bounds.now)) }
     ensures told { length bounds.now ≤ 128 → AllSmall K.Kind.arithmetic K.Kind.amount bounds.now → is_some result ≡ true }
 {
-    let sum = total(bounds)?;
-    match sum.compare(K::zero()) {
-        Ordering::Less => Some(false),
-        Ordering::Equal => Some(true),
-        Ordering::Greater => Some(true),
-    }
+    total(bounds).map(|sum| sum.compare(K::zero()).is_ge())
 }

@@ -1,6 +1,6 @@
 // Lines of text, exact to the byte, into the front of a slice.
 #![tactic(auto)]
 
-mod buffer;
-mod building;
+mod fields;
+pub mod line;
 pub mod writing;

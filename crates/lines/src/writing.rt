@@ -1,106 +1,118 @@
-// Each kind of line, written at the front of a place: the length is told, or none where it does not fit.
+// The lines of a listing.
 ghost use Rattle.std.specs.Prelude.{◌≡◌, ◌≤◌, ◌&&◌, length, nat_le};
 ghost use Rattle.lines.specs.Fields.{counts_text, window_text, contradiction_text, fault_text, most_shown, longest_line};
-ghost use Rattle.lines.specs.Held.{held};
 ghost use Rattle.lines.specs.Placed.{fits_in, told, laid};
 
-use super::buffer::Line;
+use super::fields::{push_end, push_number, push_numbers};
+use super::line::{Line, Text};
 
 // The most events of a contradiction that a line shows.
 const MOST_SHOWN: usize = 32;
 
-// Copies the line to the front of the place.
-fn lay(place: &mut [u8], line: &Line) -> Option<usize>
-    ensures answer { result ≡ told (fits_in (held line.now) place.old) (held line.now) }
-    ensures place { place.new ≡ laid (fits_in (held line.now) place.old) (held line.now) place.old }
-{
-    let len = line.len;
-    if place.len() < len {
-        return None;
-    }
-    place[0..len].copy_from_slice(&line.bytes[0..len]);
-    Some(len)
-}
-
-fn counts_line(width: u32, fill: u32, looks: u32) -> Line
-    ensures text { held result ≡ counts_text width fill looks }
-    ensures short { result.len ≤ 80 }
-{
-    let mut line = Line::empty();
-    line.push_word(b"width ");
-    line.push_long(width as u64);
-    line.push_word(b" fill ");
-    line.push_long(fill as u64);
-    line.push_word(b" looks ");
-    line.push_long(looks as u64);
-    line.push_line_end();
-    line
-}
-
-fn window_line(from: u8, to: u8, low: Option<i64>, high: Option<i64>) -> Line
-    ensures text { held result ≡ window_text from to low high }
-    ensures short { result.len ≤ 50 }
-{
-    let mut line = Line::empty();
-    line.push_short(from);
-    line.push(b' ');
-    line.push_short(to);
-    line.push(b' ');
-    line.push_end(low);
-    line.push(b' ');
-    line.push_end(high);
-    line.push_line_end();
-    line
-}
-
-fn contradiction_line(events: &[u8]) -> Line
-    requires { length events.now ≤ most_shown }
-    ensures text { held result ≡ contradiction_text events.now }
-{
-    let mut line = Line::empty();
-    line.push_word(b"contradiction");
-    line.push_all(events);
-    line.push_line_end();
-    line
-}
-
-fn fault_line(number: u8, layer: u8, offset: usize) -> Line
-    ensures text { held result ≡ fault_text number layer offset }
-    ensures short { result.len ≤ 44 }
-{
-    let mut line = Line::empty();
-    line.push_word(b"fault ");
-    line.push_short(number);
-    line.push_word(b" layer ");
-    line.push_short(layer);
-    line.push_word(b" at ");
-    line.push_long(offset as u64);
-    line.push_line_end();
-    line
-}
+const LINE_END: &str = "\n";
 
 // The counts of a close.
-pub fn write_counts(place: &mut [u8], width: u32, fill: u32, looks: u32) -> Option<usize>
-    ensures answer { result ≡ told (fits_in (counts_text width fill looks) place.old) (counts_text width fill looks) }
-    ensures place { place.new ≡ laid (fits_in (counts_text width fill looks) place.old) (counts_text width fill looks) place.old }
-    ensures short { length (counts_text width fill looks) ≤ 80 }
-{
-    lay(place, &counts_line(width, fill, looks))
+#[derive(Drop)]
+pub struct CountsLine {
+    pub width: u32,
+    pub fill: u32,
+    pub looks: u32,
 }
 
 // A pair of events with both ends of its window.
-pub fn write_window(
-    place: &mut [u8],
-    from: u8,
-    to: u8,
-    low: Option<i64>,
-    high: Option<i64>,
-) -> Option<usize>
-    ensures answer { result ≡ told (fits_in (window_text from to low high) place.old) (window_text from to low high) }
-    ensures place { place.new ≡ laid (fits_in (window_text from to low high) place.old) (window_text from to low high) place.old }
-    ensures short { length (window_text from to low high) ≤ 50 }
-{
-    lay(place, &window_line(from, to, low, high))
+#[derive(Drop)]
+pub struct WindowLine {
+    pub from: u8,
+    pub to: u8,
+    pub low: Option<i64>,
+    pub high: Option<i64>,
+}
+
+// A contradiction with the events of its loop.
+#[derive(Drop)]
+struct ContradictionLine<'e> {
+    events: &'e [u8],
+    ghost few: { length events.now ≤ most_shown },
+}
+
+// A fault of a sheet.
+#[derive(Drop)]
+pub struct FaultLine {
+    pub number: u8,
+    pub layer: u8,
+    pub offset: usize,
+}
+
+impl Line for CountsLine {
+    ghost text = { λ l. counts_text l.width l.fill l.looks };
+
+    ghost most = { 80 };
+
+    #[tactic(auto, unfolding(crate::specs::Fields::counts_text, crate::specs::Fields::line))]
+    fn text(&self) -> Text {
+        let mut text = Text::new();
+        text.push_str("width ");
+        push_number(&mut text, self.width);
+        text.push_str(" fill ");
+        push_number(&mut text, self.fill);
+        text.push_str(" looks ");
+        push_number(&mut text, self.looks);
+        text.push_str(LINE_END);
+        text
+    }
+}
+
+impl Line for WindowLine {
+    ghost text = { λ l. window_text l.from l.to l.low l.high };
+
+    ghost most = { 50 };
+
+    #[tactic(auto, unfolding(crate::specs::Fields::window_text, crate::specs::Fields::line))]
+    fn text(&self) -> Text {
+        let mut text = Text::new();
+        push_number(&mut text, self.from);
+        text.push_str(" ");
+        push_number(&mut text, self.to);
+        text.push_str(" ");
+        push_end(&mut text, self.low);
+        text.push_str(" ");
+        push_end(&mut text, self.high);
+        text.push_str(LINE_END);
+        text
+    }
+}
+
+impl Line for ContradictionLine<'_> {
+    ghost text = { λ l. contradiction_text l.events.now };
+
+    ghost most = { longest_line };
+
+    fn text(&self) -> Text {
+        let mut text = Text::new();
+        text.push_str("contradiction");
+        push_numbers(&mut text, self.events);
+        text.push_str(LINE_END);
+        text
+    }
+}
+
+impl Line for FaultLine {
+    ghost text = { λ l. fault_text l.number l.layer l.offset };
+
+    ghost most = { 44 };
+
+    #[tactic(auto, unfolding(crate::specs::Fields::fault_text, crate::specs::Fields::line))]
+    fn text(&self) -> Text {
+        let mut text = Text::new();
+        text.push_str("fault ");
+        push_number(&mut text, self.number);
+        text.push_str(" layer ");
+        push_number(&mut text, self.layer);
+        text.push_str(" at ");
+        push_number(&mut text, self.offset);
+        text.push_str(LINE_END);
+        text
+    }
 }
 
 // A contradiction with the events of its loop; more than MOST_SHOWN are not written.
@@ -112,14 +124,5 @@ pub fn write_contradiction(place: &mut [u8], events: &[u8]) -> Option<usize>
     if events.len() > MOST_SHOWN {
         return None;
     }
-    lay(place, &contradiction_line(events))
-}
-
-// A fault of a sheet.
-pub fn write_fault(place: &mut [u8], number: u8, layer: u8, offset: usize) -> Option<usize>
-    ensures answer { result ≡ told (fits_in (fault_text number layer offset) place.old) (fault_text number layer offset) }
-    ensures place { place.new ≡ laid (fits_in (fault_text number layer offset) place.old) (fault_text number layer offset) place.old }
-    ensures short { length (fault_text number layer offset) ≤ 44 }
-{
-    lay(place, &fault_line(number, layer, offset))
+    ContradictionLine { events }.write(place)
 }

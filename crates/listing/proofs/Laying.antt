@@ -1,8 +1,8 @@
 -- Texts written one after another, each from where the one before ended.
-use Rattle.std.proofs.Common.{◌≡◌, ℕ, suc, ◌+◌, ◌-◌, ◌≤◌, List, [], ◌++◌, length, take, drop, sym, refl, ap, ◌∙◌, append_assoc, add-one, arith}
+use Rattle.std.proofs.Common.{◌≡◌, ℕ, suc, ◌+◌, ◌-◌, ◌≤◌, List, [], ◌++◌, length, take, drop, refl, ap, ◌∙◌, append_assoc, add-one, arith}
 use borrow.Rule.Slice.PartMut.{put_mid}
 use Rattle.std.specs.List.{between}
-use Rattle.std.proofs.lemmas.List.{append-nil, length-append, length-drop, length-take, take_at, drop_at, drop_all, drop-drop, take-append-drop}
+use Rattle.std.proofs.lemmas.List.{append-nil, length-append, length-drop, take_at, drop_at, drop_all, drop-drop}
 use Rattle.std.proofs.lemmas.Slice.{between_to_end}
 use Rattle.listing.specs.Standing.{Stands}
 use Rattle.listing.specs.Texts.{texts}
@@ -30,8 +30,12 @@ pub texts_none : (text : ℕ → List ℕ) (k : ℕ) → texts text k (k - k) �
 unfolding texts
 texts_none text k = let e : k - k ≡ 0 = omega arith in ap (texts text k) e
 
+-- nothing written yet
+pub stands_none : {before : List ℕ} → Stands before before [] 0 0
+stands_none = record { ends = refl; fits = omega arith; place = refl }
+
 -- a text written at the front of the part from `at` on, after what stands before it
-pub part_more : (xs zs ls text : List ℕ) (at n : ℕ) → length ls ≡ at → at ≤ length zs → xs ≡ ls ++ drop at zs → put_mid at (length xs - at) xs (text ++ drop n (between at (length xs) xs)) ≡ (ls ++ text) ++ drop (at + n) zs
+part_more : (xs zs ls text : List ℕ) (at n : ℕ) → length ls ≡ at → at ≤ length zs → xs ≡ ls ++ drop at zs → put_mid at (length xs - at) xs (text ++ drop n (between at (length xs) xs)) ≡ (ls ++ text) ++ drop (at + n) zs
 part_more xs zs ls text at n l b e =
     let rest : drop at xs ≡ drop at zs = ap (drop at) e ∙ drop_at ls (drop at zs) at l in
     let front : take at xs ≡ ls = ap (take at) e ∙ take_at ls (drop at zs) at l in
@@ -39,39 +43,14 @@ part_more xs zs ls text at n l b e =
     let none : drop (length xs - at) (drop at xs) ≡ [] = drop_all (length xs - at) (drop at xs) (simp length-drop (omega arith)) in
     simp (whole, none, front) (simp (rest, append-nil, drop-drop, append_assoc))
 
--- one text more after those that stand
-pub stands_more : (before now front text : List ℕ) (start at n : ℕ) → Stands before now front start at → n ≡ length text → at + n ≤ length before →
-    Stands before (put_mid at (length now - at) now (text ++ drop n (between at (length now) now))) (front ++ text) start (at + n)
-stands_more before now front text start at n s e h =
+-- one text more, in the part from where those before it end
+pub stands_more : {before now front text part : List ℕ} {at n : ℕ} → Stands before now front 0 at → Stands (between at (length now) now) part text 0 n → at + n ≤ length before →
+    Stands before (put_mid at (length now - at) now part) (front ++ text) 0 (at + n)
+stands_more {before = before} {now = now} {front = front} {text = text} {at = at} {n = n} s t h =
     let ends = s.ends in
-    let fits = s.fits in
-    let l : length (take start before ++ front) ≡ at = simp (length-append, length-take) (omega arith) in
+    let more = t.ends in
     record {
       ends = simp length-append (omega arith);
       fits = h;
-      place = part_more now before (take start before ++ front) text at n l fits s.place ∙ ap (λ (t : List ℕ). t ++ drop (at + n) before) (append_assoc (take start before) front text);
-    }
-
--- nothing written yet
-pub stands_none : (before : List ℕ) (start : ℕ) → start ≤ length before → Stands before before [] start start
-stands_none before start h =
-    record { ends = omega arith; fits = h; place = sym (take-append-drop start before) ∙ ap (λ (t : List ℕ). t ++ drop start before) (sym (append-nil (take start before))) }
-
--- a text after another
-pub stands_then : (before mid now front text : List ℕ) (start at end : ℕ) → Stands before mid front start at → Stands mid now text at end → Stands before now (front ++ text) start end
-stands_then before mid now front text start at end s t =
-    let ends = s.ends in
-    let fits = s.fits in
-    let further = t.ends in
-    let l : length (take start before ++ front) ≡ at = simp (length-append, length-take) (omega arith) in
-    let head : take at mid ≡ take start before ++ front = ap (take at) s.place ∙ take_at (take start before ++ front) (drop at before) at l in
-    let tail : drop at mid ≡ drop at before = ap (drop at) s.place ∙ drop_at (take start before ++ front) (drop at before) at l in
-    let same : length mid ≡ length before = ap length s.place ∙ simp (length-append, length-take, length-drop) (omega arith) in
-    let rest : drop end mid ≡ drop end before =
-    ap (λ (k : ℕ). drop k mid) further ∙ sym (drop-drop (length text) at mid) ∙ ap (drop (length text)) tail ∙ drop-drop (length text) at before ∙ ap (λ (k : ℕ). drop k before) (sym further)
-    in
-    record {
-      ends = simp length-append (omega arith);
-      fits = omega (arith, t.fits);
-      place = t.place ∙ ap (λ (x : List ℕ). (x ++ text) ++ drop end mid) head ∙ ap (λ (x : List ℕ). ((take start before ++ front) ++ text) ++ x) rest ∙ ap (λ (x : List ℕ). x ++ drop end before) (append_assoc (take start before) front text);
+      place = ap (put_mid at (length now - at) now) t.place ∙ part_more now before front text at n (omega arith) s.fits s.place;
     }

@@ -4,11 +4,11 @@ ghost use Rattle.net.specs.Refusals.{answered};
 ghost use Rattle.listing.specs.Listings.{Listed, NetListed};
 ghost use Rattle.listing.specs.Asked.{Kept, state_of};
 
-use super::asking::close;
-use super::pairs::write_windows;
+use super::asking::{ClosedNet, close};
 use kinds::kind::Kind;
 use kinds::micros::Micros;
-use lines::writing::{write_contradiction, write_counts, write_fault};
+use lines::line::Line;
+use lines::writing::{CountsLine, FaultLine, write_contradiction};
 use net::net::Net;
 use net::refusal::Refusal;
 use sheet::reading::read;
@@ -22,10 +22,12 @@ pub const LONGEST_SHEET: usize = 16384;
 
 pub const SHORTEST_PLACE: usize = 32768;
 
-// The number of the fault of a sheet that is too long; it lies in the bytes.
-const TOO_LONG: u8 = 27;
-
-const IN_BYTES: u8 = 1;
+// The fault of a sheet that is too long; it lies in the bytes.
+const TOO_LONG: FaultLine = FaultLine {
+    number: 27,
+    layer: 1,
+    offset: 0,
+};
 
 // The counts and the windows of a net, or the loop that contradicts, at the front of the place.
 fn list(net: &mut Net<Micros>, place: &mut [u8]) -> usize
@@ -34,13 +36,19 @@ fn list(net: &mut Net<Micros>, place: &mut [u8]) -> usize
     requires room { 32768 ≤ length place.old }
     ensures { NetListed (state_of net.old) place.old place.new result }
 {
+    // the close fills a place and tells a number, which is cut off at once
     let mut events = [0u8; 128];
     match close(net, &mut events) {
         Ok(counts) => {
-            let at = write_counts(place, counts.width, counts.fill, counts.looks).unwrap();
-            write_windows(net, place, at)
+            let line = CountsLine {
+                width: counts.width,
+                fill: counts.fill,
+                looks: counts.looks,
+            };
+            let at = line.write(place).unwrap();
+            at + ClosedNet { net }.write_windows(&mut place[at..])
         }
-        Err(shown) => write_contradiction(place, &events[0..shown]).unwrap(),
+        Err(why) => write_contradiction(place, &events[..why.shown]).unwrap(),
     }
 }
 
@@ -53,17 +61,19 @@ pub fn listing(sheet: &[u8], place: &mut [u8]) -> Result<usize, Refusal>
         return Err(Refusal::PlaceTooShort);
     }
     if sheet.len() > LONGEST_SHEET {
-        return Ok(write_fault(place, TOO_LONG, IN_BYTES, 0).unwrap());
+        return Ok(TOO_LONG.write(place).unwrap());
     }
     let mut cells = [blank(); OWN_CELLS];
     let mut net = Net::make(&mut cells);
     match read(&mut net, sheet) {
         Ok(()) => Ok(list(&mut net, place)),
-        Err(fault) => Ok(write_fault(
-            place,
-            fault.number(),
-            fault.layer(),
-            fault.offset(),
-        ).unwrap()),
+        Err(fault) => {
+            let line = FaultLine {
+                number: fault.number(),
+                layer: fault.layer().number(),
+                offset: fault.offset(),
+            };
+            Ok(line.write(place).unwrap())
+        }
     }
 }

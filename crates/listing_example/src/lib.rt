@@ -3,8 +3,6 @@
 
 ghost use Rattle.listing_example.specs.Worked.{WorkedText};
 
-pub fn worked_sheet_is_listed() -> u8
+pub fn worked_sheet_is_listed()
     ensures { WorkedText }
-{
-    0
-}
+{}

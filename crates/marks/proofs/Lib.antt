@@ -1,3 +1,5 @@
+pub mod Counting
+pub mod Taking
+pub mod Progress
 pub mod Digits
-pub mod Words
 pub mod Lowest

@@ -1,6 +1,5 @@
-// A set of the events below 128: one digit each, in two words.
+// A set of the events below 128: one digit each.
 #[derive(Clone, Copy)]
 pub struct Marks {
-    pub low: u64,
-    pub high: u64,
+    pub digits: u128,
 }

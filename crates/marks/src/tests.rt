@@ -1,4 +1,4 @@
-// Marks on both sides of the border between the words.
+// Marks on both sides of the border between the halves.
 use super::set::Marks;
 
 #[test]
@@ -20,4 +20,13 @@ fn joined_and_parted(rt: HostRuntime) {
     assert_eq!(rt; low.difference(both).count(), 69);
     assert_eq!(rt; low.union(Marks::only(127)).count(), 71);
     assert_eq!(rt; Marks::none().first(), None);
+}
+
+#[test]
+fn members_come_from_the_lowest_up(rt: HostRuntime) {
+    let mut members = Marks::only(127).with(64).with(63).members();
+    assert_eq!(rt; members.next(), Some(63));
+    assert_eq!(rt; members.next(), Some(64));
+    assert_eq!(rt; members.next(), Some(127));
+    assert_eq!(rt; members.next(), None);
 }

@@ -1,55 +1,49 @@
 -- What a closed net tells is what the definitions say.
-use Rattle.std.proofs.Common.{◌≡◌, ℕ, zero, suc, ◌+◌, ◌^◌, ◌<◌, ◌≤◌, Bool, true, false, ◌&&◌, ltb, leb, ◌⊎◌, List, [], ◌∷◌, length, drop, set, ℤ, is_some, Some, None, Ok, Err, Option, Result, sym, refl, ap, ◌∙◌, subst, ap₂, ⊎_elim, add-one, arith, drop-set-lt}
-use Rattle.std.proofs.lemmas.Bool.{cases_Bool, cases_eq, le-leb, lt-leb, cond-true, cond-false, both_ways, false≢true}
+use Rattle.std.proofs.Common.{◌≡◌, ℕ, zero, suc, ◌+◌, ◌^◌, ◌<◌, ◌≤◌, Bool, true, false, cond, ◌&&◌, ltb, leb, List, length, set, ℤ, is_some, Some, None, Ok, Err, Option, Result, sym, refl, ap, ◌∙◌, subst, ap₂, ⊎_elim, arith}
+use Rattle.std.proofs.lemmas.Grind.{common_steps}
+use Rattle.std.proofs.lemmas.Option.{gets}
+use Rattle.std.proofs.lemmas.Bool.{cases_eq, le-leb, lt-leb, cond-true, cond-false}
 use Rattle.std.specs.List.{slice_get}
-use Rattle.kinds.specs.Answers.{pick, Exact}
-use Rattle.kinds.specs.Arithmetic.{Arithmetic, Amount, Lawful, Inverse}
-use Rattle.order.specs.declared.event_order.EventOrder.{EventOrder}
-use Rattle.order.specs.Orderings.{events_of}
+use Rattle.kinds.specs.Arithmetic.{Arithmetic, Lawful, Inverse}
 use Rattle.table.specs.declared.cell.Cell.{Cell}
-use Rattle.table.specs.Cells.{at_cell, amount_of, bounds}
+use Rattle.table.specs.Cells.{at_cell, amount_of}
 use Rattle.walks.specs.Bounds.{InForce, Within}
 use Rattle.walks.specs.Walks.{Route, Told, Window}
-use Rattle.walks.specs.Least.{lesser, least, distance, contradictory, opposite, time}
+use Rattle.walks.specs.Least.{lesser, least, distance, opposite, window, time}
 use Rattle.walks.proofs.Sizes.{small}
 use Rattle.walks.proofs.Distances.{told}
 use Rattle.walks.proofs.Schedules.{times}
 use Rattle.walks.proofs.Windows.{windows}
-use Rattle.closing.specs.Closed.{Holds, Walks}
+use Rattle.closing.specs.Closed.{Walks}
 use Rattle.net.specs.declared.mode.Mode.{Mode}
 use Rattle.net.specs.declared.mode.Mode.TheVariants.{Open, Closed}
+use Rattle.net.specs.declared.net.Net.{Net}
 use Rattle.net.specs.Limits.{most_size}
 use Rattle.net.specs.Refusals.{Reason, by}
-use Rattle.net.specs.State.{State, Sound}
+use Rattle.net.specs.State.{State, state, cells_of, known}
+use Rattle.net.specs.Kept.{Kept}
 use Rattle.net.specs.Told.{shut}
 use Rattle.net.specs.Asking.{asked, placed, times_asked, Schedules}
 use Rattle.net.specs.Times.{column, Earliest}
-use Rattle.net.proofs.Outcomes.{events_yes, events_no}
-
-not_ok : {P : Type 0} (x : Reason) → ◌≡◌ {A = Result (Unit {0}) Reason} (Err x) (Ok tt) → P
-not_ok x e = let z : ◌≡◌ {A = ℕ} 0 1 = cc in absurd (omega arith)
-
-turned : {T : Type 0} (x y : Reason) → ◌≡◌ {A = Result (Unit {0}) Reason} (Err x) (Err y) → ◌≡◌ {A = Result T Reason} (Err x) (Err y)
-turned x y e = let z : x ≡ y = cc in ap Err z
+use Rattle.net.proofs.Outcomes.{events_yes, cond_refused}
 
 -- refused the same, whatever would be told
+answer_refused : {T : Type 0} (b shut : Bool) (x : Reason) (answer : Result T Reason) → ◌≡◌ {A = Result (Unit {0}) Reason} (Err x) (cond b (cond shut (Ok tt) (Err (by 6))) (Err (by 3))) → Err x ≡ cond b (cond shut answer (Err (by 6))) (Err (by 3))
+answer_refused true true x answer e = cc
+answer_refused true false x answer e = let z : x ≡ by 6 = cc in ap Err z
+answer_refused false shut x answer e = let z : x ≡ by 3 = cc in ap Err z
+
 pub asked_refused : {T : Type 0} (n : ℕ) (mode : Mode) (i j : ℕ) (x : Reason) (answer : Result T Reason) → ◌≡◌ {A = Result (Unit {0}) Reason} (Err x) (asked n mode i j (Ok tt)) → Err x ≡ asked n mode i j answer
 unfolding asked
-asked_refused n mode i j x answer e = ⊎_elim
-    (λ t. ⊎_elim
-    (λ u. not_ok x (e ∙ cond-true (ltb i n && ltb j n) _ _ t ∙ cond-true (shut mode) _ _ u))
-    (λ u. turned x (by 6) (e ∙ cond-true (ltb i n && ltb j n) _ _ t ∙ cond-false (shut mode) _ _ u) ∙ sym (cond-true (ltb i n && ltb j n) _ _ t ∙ cond-false (shut mode) _ _ u))
-    (cases_Bool (shut mode)))
-    (λ t. turned x (by 3) (e ∙ cond-false (ltb i n && ltb j n) _ _ t) ∙ sym (cond-false (ltb i n && ltb j n) _ _ t))
-    (cases_Bool (ltb i n && ltb j n))
+asked_refused n mode i j x answer e = answer_refused (ltb i n && ltb j n) (shut mode) x answer e
 
 pub asked_good : {T : Type 0} (n : ℕ) (mode : Mode) (i j : ℕ) (answer : Result T Reason) → i < n → j < n → mode ≡ Closed → answer ≡ asked n mode i j answer
 unfolding asked
 asked_good n mode i j answer p q e = sym (cond-true (ltb i n && ltb j n) _ _ (events_yes n i j p q) ∙ cond-true (shut mode) _ _ (ap shut e))
 
-pub asked_outside : (n : ℕ) (mode : Mode) (i j : ℕ) → (n ≤ i) ⊎ (i < n) × (n ≤ j) → ◌≡◌ {A = Result (Unit {0}) Reason} (Err (by 3)) (asked n mode i j (Ok tt))
+pub asked_outside : (n : ℕ) (mode : Mode) (i j : ℕ) (x : Reason) → Err x ≡ known n i j → ◌≡◌ {A = Result (Unit {0}) Reason} (Err x) (asked n mode i j (Ok tt))
 unfolding asked
-asked_outside n mode i j o = sym (cond-false (ltb i n && ltb j n) _ _ (events_no n i j o))
+asked_outside n mode i j x e = let r = cond_refused _ x (by 3) e in ap Err r.1 ∙ sym (cond-false (ltb i n && ltb j n) _ _ r.0)
 
 pub asked_open : (n : ℕ) (mode : Mode) (i j : ℕ) → i < n → j < n → mode ≡ Open → ◌≡◌ {A = Result (Unit {0}) Reason} (Err (by 6)) (asked n mode i j (Ok tt))
 unfolding asked
@@ -71,131 +65,77 @@ times_placed place s r e f = f ∙ sym (cond-true (shut s.mode) _ _ (ap shut e))
 
 -- an option that is some
 pub some_of : {X : Type 0} (o : Option X) → is_some o ≡ true → (x : X) × (o ≡ Some x)
-some_of None e = absurd (false≢true e)
+some_of None e = cc
 some_of (Some x) e = (x, refl)
 
-pub none_of : {X : Type 0} (o : Option X) → is_some o ≡ false → o ≡ None
-none_of None e = refl
-none_of (Some x) e = absurd (false≢true (sym e))
+-- a mode is one of the two
+pub not_open : (m : Mode) → (m ≡ Open → ⊥) → m ≡ Closed
+not_open Open h = absurd (h refl)
+not_open Closed h = refl
 
--- the opposite, where it is small
-pub opposite_exact : {K : Type 0} (amount : K → List ℤ) (minus : List ℤ → List ℤ) (P : Type 0) (d : K) (r : Option K) → P → Exact amount r P (minus (amount d)) → amount_of amount r ≡ Some (minus (amount d))
-opposite_exact amount minus P d None p h = absurd (h p)
-opposite_exact amount minus P d (Some x) p h = ap Some h.1
+-- equal columns have one least
+least_agree : (A : Arithmetic) (m : ℕ) (f g : ℕ → Option (List ℤ)) → ((i : ℕ) → i < m → f i ≡ g i) → least A m f ≡ least A m g
+least_agree A zero f g h = refl
+least_agree A (suc m) f g h = ap₂ (lesser A) (least_agree A m f g (λ i l. h i (omega arith))) (h m (omega arith))
 
-module _ {K : Type 0} (A : Arithmetic) (L : Lawful A) (amount : K → List ℤ) (n : ℕ) (order : EventOrder) (mode : Mode) (xs : List (Cell K)) (e : order.count ≡ n) where
-  abbrev here : State
-  here = record { events = n; bounds = bounds amount n xs; order = events_of order; mode = mode }
-
+-- a net that is closed, and keeps to what nets keep to
+module _ {K : Type 0} (A : Arithmetic) (L : Lawful A) (amount : K → List ℤ) (net : Net K) (k : Kept A amount net) (is : net.mode ≡ Closed) where
   -- the cell of a pair holds its distance
-  pub held : (i j : ℕ) (c : Cell K) → Holds A amount order xs → i < n → j < n → c ≡ at_cell n xs i j → amount_of amount c.distance ≡ distance A n (bounds amount n xs) i j
-  held i j c h p q at = ap (λ (d : Cell K). amount_of amount d.distance) at ∙ subst (λ m. i < m → j < m → amount_of amount (at_cell m xs i j).distance ≡ distance A m (bounds amount m xs) i j) e (h.distances i j) p q
+  pub held : (i j : ℕ) (c : Cell K) → i < (state amount net).events → j < (state amount net).events → c ≡ at_cell (state amount net).events (cells_of net) i j → amount_of amount c.distance ≡ distance A (state amount net).events (state amount net).bounds i j
+  held i j c p q at = ap (λ (d : Cell K). amount_of amount d.distance) at ∙ (k.holds is).distances i j p q
+
+  sorted : Within A (state amount net).events (state amount net).bounds
+  sorted = record { below = k.sound.within; amounts = k.sound.amounts }
 
   -- and a distance has an opposite
-  pub held_small : (i j : ℕ) (c : Cell K) → Holds A amount order xs → Sound A here → n ≤ 128 → i < n → j < n → c ≡ at_cell n xs i j → (d : K) → c.distance ≡ Some d → A.size (amount d) ≤ 2 ^ 60
-  held_small i j c h s few p q at d f =
-      let far = small A L n (bounds amount n xs) (record { below = s.within; amounts = s.amounts }) most_size s.sized i j (amount d) (sym (held i j c h p q at) ∙ ap (amount_of amount) f) in
+  pub held_small : (i j : ℕ) (c : Cell K) → i < (state amount net).events → j < (state amount net).events → c ≡ at_cell (state amount net).events (cells_of net) i j → (d : K) → c.distance ≡ Some d → A.size (amount d) ≤ 2 ^ 60
+  held_small i j c p q at d f =
+      let few = net.table.order.fits in
+      let far = small A L (state amount net).events (state amount net).bounds sorted most_size k.sound.sized i j (amount d) (sym (held i j c p q at) ∙ ap (amount_of amount) f) in
       omega arith
 
-  -- the route told, among the net's own events
-  pub routed : (i j : ℕ) (c : Cell K) (d : K) (events : List ℕ) → Holds A amount order xs → i < n → j < n → c ≡ at_cell n xs i j → c.distance ≡ Some d → Walks A amount order xs i j events → (a : List ℤ) × (distance A n (bounds amount n xs) i j ≡ Some a) × Route A (InForce (bounds amount n xs)) i j events a
-  routed i j c d events h p q at f walks =
-      let found : (at_cell order.count xs i j).distance ≡ Some d = ap (λ m. (at_cell m xs i j).distance) e ∙ ap (λ (x : Cell K). x.distance) (sym at) ∙ f in
-      (amount d, sym (held i j c h p q at) ∙ ap (amount_of amount) f, subst (λ m. Route A (InForce (bounds amount m xs)) i j events (amount d)) e (walks L h d found))
-
-  calm : Holds A amount order xs → contradictory A n (bounds amount n xs) ≡ false
-  calm h = subst (λ m. contradictory A m (bounds amount m xs) ≡ false) e h.calm
-
-  sorted : Sound A here → Within A n (bounds amount n xs)
-  sorted s = record { below = s.within; amounts = s.amounts }
+  -- the route told
+  pub routed : (i j : ℕ) (c : Cell K) (d : K) (events : List ℕ) → i < (state amount net).events → j < (state amount net).events → c ≡ at_cell (state amount net).events (cells_of net) i j → c.distance ≡ Some d → Walks A amount net.table.order (cells_of net) i j events →
+      (a : List ℤ) × (distance A (state amount net).events (state amount net).bounds i j ≡ Some a) × Route A (InForce (state amount net).bounds) i j events a
+  routed i j c d events p q at f walks = (amount d, sym (held i j c p q at) ∙ ap (amount_of amount) f, walks L (k.holds is) d (ap (λ (x : Cell K). x.distance) (sym at) ∙ f))
 
   -- a distance is the least sum of all walks
-  pub held_least : (i j : ℕ) (d : Option (List ℤ)) → Holds A amount order xs → Sound A here → d ≡ distance A n (bounds amount n xs) i j → Told A (InForce (bounds amount n xs)) i j d
-  held_least i j d h s f = (told A L n (bounds amount n xs) (sorted s) (calm h) i j d).1 f
+  pub held_least : (i j : ℕ) (d : Option (List ℤ)) → d ≡ distance A (state amount net).events (state amount net).bounds i j → Told A (InForce (state amount net).bounds) i j d
+  held_least i j d f = (told A L (state amount net).events (state amount net).bounds sorted (k.holds is).calm i j d).1 f
 
-  -- the ends of a window are exact
-  pub held_exact : (minus : List ℤ → List ℤ) → Inverse A minus → (i j : ℕ) (low high : Option (List ℤ)) → Holds A amount order xs → Sound A here → low ≡ opposite minus (distance A n (bounds amount n xs) j i) → high ≡ distance A n (bounds amount n xs) i j → Window A (InForce (bounds amount n xs)) i j (low, high)
-  held_exact minus I i j low high h s f g = subst (Window A (InForce (bounds amount n xs)) i j) (sym (ap₂ (λ x y. (x, y)) f g)) (windows A L minus I n (bounds amount n xs) (sorted s) (calm h) i j)
+  -- the two ends of a window
+  pub held_window : (minus : List ℤ → List ℤ) (i j : ℕ) (there back : Cell K) (low : Option K) → i < (state amount net).events → j < (state amount net).events → there ≡ at_cell (state amount net).events (cells_of net) i j → back ≡ at_cell (state amount net).events (cells_of net) j i →
+      (((d : K) → back.distance ≡ Some d → A.size (amount d) ≤ 2 ^ 60) → amount_of amount low ≡ opposite minus (amount_of amount back.distance)) →
+      (amount_of amount low, amount_of amount there.distance) ≡ window A minus (state amount net).events (state amount net).bounds i j
+  held_window minus i j there back low p q at at_back opposed =
+      ap₂ (λ x y. (x, y)) (opposed (held_small j i back q p at_back) ∙ ap (opposite minus) (held j i back q p at_back)) (held i j there p q at)
 
-  least_agree : (m : ℕ) (f g : ℕ → Option (List ℤ)) → ((i : ℕ) → i < m → f i ≡ g i) → least A m f ≡ least A m g
-  least_agree zero f g h = refl
-  least_agree (suc m) f g h = ap₂ (lesser A) (least_agree m f g (λ i l. h i (omega arith))) (h m (omega arith))
+  -- they are exact
+  pub held_exact : (minus : List ℤ → List ℤ) → Inverse A minus → (i j : ℕ) (ends : Option (List ℤ) × Option (List ℤ)) → ends ≡ window A minus (state amount net).events (state amount net).bounds i j → Window A (InForce (state amount net).bounds) i j ends
+  held_exact minus I i j ends e = subst (Window A (InForce (state amount net).bounds) i j) (sym e) (windows A L minus I (state amount net).events (state amount net).bounds sorted (k.holds is).calm i j)
 
   -- the least of a column is the time
-  pub timed : (place : List K) → Holds A amount order xs → Sound A here → Earliest A amount n xs n place → (j : ℕ) → j < n → amount_of amount (slice_get place j) ≡ time A n (bounds amount n xs) j
-  timed place h s early j l =
-      let plan = times A L n (bounds amount n xs) (sorted s) (calm h) in
-      let same : least A n (column amount n xs j) ≡ time A n (bounds amount n xs) j = least_agree n (column amount n xs j) (λ i. distance A n (bounds amount n xs) i j) (λ i p. held i j (at_cell n xs i j) h p l refl) in
+  pub timed : (place : List K) → Earliest A amount (state amount net).events (cells_of net) (state amount net).events place → (j : ℕ) → j < (state amount net).events → amount_of amount (slice_get place j) ≡ time A (state amount net).events (state amount net).bounds j
+  timed place early j l =
+      let plan = times A L (state amount net).events (state amount net).bounds sorted (k.holds is).calm in
+      let same : least A (state amount net).events (column amount (state amount net).events (cells_of net) j) ≡ time A (state amount net).events (state amount net).bounds j = least_agree A (state amount net).events (column amount (state amount net).events (cells_of net) j) (λ i. distance A (state amount net).events (state amount net).bounds i j) (λ i p. held i j (at_cell (state amount net).events (cells_of net) i j) p l refl) in
       early j (plan.schedule.time j) l (same ∙ plan.times j l) ∙ sym (plan.times j l)
 
   -- and the times are a schedule
-  pub planned : (place : List K) → Holds A amount order xs → Sound A here → Earliest A amount n xs n place → Schedules A amount here place
-  planned place h s early =
-      let plan = times A L n (bounds amount n xs) (sorted s) (calm h) in
-      record { schedule = plan.schedule; times = λ j l. timed place h s early j l ∙ plan.times j l }
-
--- the lesser of two, by a comparison
-pick_true : {X : Type 0} (b : Bool) (x y : X) → b ≡ true → pick b x y ≡ x
-pick_true b x y e = ap (λ t. pick t x y) e
-
-pick_false : {X : Type 0} (b : Bool) (x y : X) → b ≡ false → pick b x y ≡ y
-pick_false b x y e = ap (λ t. pick t x y) e
-
-module _ {K : Type 0} (A : Arithmetic) (amount : K → List ℤ) (first second : Option K) (a b : K) (p : first ≡ Some a) (q : second ≡ Some b) where
-  both_some : lesser A (amount_of amount first) (amount_of amount second) ≡ pick (A.at_most (amount a) (amount b)) (Some (amount a)) (Some (amount b))
-  both_some = ap₂ (λ x y. lesser A (amount_of amount x) (amount_of amount y)) p q
-
-  pub second_less : A.at_most (amount a) (amount b) ≡ false → Some (amount b) ≡ lesser A (amount_of amount first) (amount_of amount second)
-  second_less e = sym (both_some ∙ pick_false (A.at_most (amount a) (amount b)) _ _ e)
-
-  pub same_amount : amount b ≡ amount a → Some (amount a) ≡ lesser A (amount_of amount first) (amount_of amount second)
-  same_amount e = sym (both_some ∙ ⊎_elim (λ t. pick_true (A.at_most (amount a) (amount b)) _ _ t) (λ t. pick_false (A.at_most (amount a) (amount b)) _ _ t ∙ ap Some e) (cases_Bool (A.at_most (amount a) (amount b))))
-
-  pub first_less : Lawful A → Amount A (amount a) → Amount A (amount b) → A.at_most (amount b) (amount a) ≡ false → Some (amount a) ≡ lesser A (amount_of amount first) (amount_of amount second)
-  first_less L x y e = sym (both_some ∙ pick_true (A.at_most (amount a) (amount b)) _ _ (⊎_elim (λ h. h) (λ h. absurd (both_ways (A.at_most (amount b) (amount a)) e h)) (L.total (amount a) (amount b) x y)))
+  pub planned : (place : List K) → Earliest A amount (state amount net).events (cells_of net) (state amount net).events place → Schedules A amount (state amount net) place
+  planned place early =
+      let plan = times A L (state amount net).events (state amount net).bounds sorted (k.holds is).calm in
+      record { schedule = plan.schedule; times = λ j l. timed place early j l ∙ plan.times j l }
 
 -- one more of a column
-pub least_more : {K : Type 0} (A : Arithmetic) (amount : K → List ℤ) (n j i : ℕ) (xs : List (Cell K)) (c : Cell K) (best r : Option K) → amount_of amount best ≡ least A i (column amount n xs j) → c ≡ at_cell n xs i j → amount_of amount r ≡ lesser A (amount_of amount best) (amount_of amount c.distance) → amount_of amount r ≡ least A (i + 1) (column amount n xs j)
-least_more {K = K} A amount n j i xs c best r inv at e = rw add-one (e ∙ ap₂ (lesser A) inv (ap (λ (d : Cell K). amount_of amount d.distance) at))
-
-nth_same : {X : Type 0} (xs : List X) (k : ℕ) (v : X) → k < length xs → slice_get (set xs k v) k ≡ Some v
-nth_same [] k v h = absurd (omega arith)
-nth_same (x ∷ xs) zero v h = refl
-nth_same (x ∷ xs) (suc k) v h = nth_same xs k v (omega arith)
-
-nth_other : {X : Type 0} (xs : List X) (k q : ℕ) (v : X) → (q ≡ k → ⊥) → slice_get (set xs k v) q ≡ slice_get xs q
-nth_other [] k q v h = refl
-nth_other (x ∷ xs) zero zero v h = absurd (h refl)
-nth_other (x ∷ xs) zero (suc q) v h = refl
-nth_other (x ∷ xs) (suc k) zero v h = refl
-nth_other (x ∷ xs) (suc k) (suc q) v h = nth_other xs k q v (λ e. h (ap suc e))
-
--- one more time written, or none where the column has none
-pub earliest_more : {K : Type 0} (A : Arithmetic) (amount : K → List ℤ) (n m : ℕ) (xs : List (Cell K)) (place : List K) (t : K) → m < length place → Some (amount t) ≡ least A n (column amount n xs m) → Earliest A amount n xs m place → Earliest A amount n xs (m + 1) (set place m t)
-earliest_more A amount n m xs place t l found inv j u p e = ⊎_elim
-    (λ s. ap (λ k. amount_of amount (slice_get (set place m t) k)) s ∙ ap (amount_of amount) (nth_same place m t l) ∙ found ∙ ap (λ k. least A n (column amount n xs k)) (sym s) ∙ e)
-    (λ d. ap (amount_of amount) (nth_other place m j t d) ∙ inv j u (omega arith) e)
+pub least_more : {K : Type 0} (A : Arithmetic) (amount : K → List ℤ) (n m : ℕ) (xs : List (Cell K)) (before after : List K) (t : K) → m < length before → after ≡ set before m t → amount_of amount (Some t) ≡ least A n (column amount n xs m) → Earliest A amount n xs m before → Earliest A amount n xs (m + 1) after
+least_more A amount n m xs before after t l e found inv j u p q = ⊎_elim
+    (λ (s : j ≡ m). rw (e, s) (let here : slice_get (set before m t) m ≡ Some t = grind (arith, common_steps, gets) in ap (amount_of amount) here ∙ found ∙ ap (λ k. least A n (column amount n xs k)) (sym s) ∙ q))
+    (λ (d : j ≡ m → ⊥). rw e (let there : slice_get (set before m t) j ≡ slice_get before j = grind (arith, common_steps, gets) in ap (amount_of amount) there ∙ inv j u (omega arith) q))
     (cases_eq j m)
 
-pub earliest_skip : {K : Type 0} (A : Arithmetic) (amount : K → List ℤ) (n m : ℕ) (xs : List (Cell K)) (place : List K) → None ≡ least A n (column amount n xs m) → Earliest A amount n xs m place → Earliest A amount n xs (m + 1) place
-earliest_skip A amount n m xs place none inv j u p e = ⊎_elim
-    (λ s. absurd (apart u (none ∙ ap (λ k. least A n (column amount n xs k)) (sym s) ∙ e)))
-    (λ d. inv j u (omega arith) e)
+pub least_skip : {K : Type 0} (A : Arithmetic) (amount : K → List ℤ) (n m : ℕ) (xs : List (Cell K)) (before after : List K) → after ≡ before → None ≡ least A n (column amount n xs m) → Earliest A amount n xs m before → Earliest A amount n xs (m + 1) after
+least_skip A amount n m xs before after e none inv j u p q = ⊎_elim
+    (λ s. let z : ◌≡◌ {A = Option (List ℤ)} None (Some u) = none ∙ ap (λ k. least A n (column amount n xs k)) (sym s) ∙ q in cc)
+    (λ d. rw e (inv j u (omega arith) q))
     (cases_eq j m)
-  where
-    apart : (u : List ℤ) → ◌≡◌ {A = Option (List ℤ)} None (Some u) → ⊥
-    apart u f = let z : ◌≡◌ {A = ℕ} 0 1 = cc in omega arith
-
-pub rest_kept : {K : Type 0} (n m : ℕ) (place before : List K) (t : K) → m < n → drop n place ≡ drop n before → drop n (set place m t) ≡ drop n before
-rest_kept n m place before t l e = drop-set-lt n place m t l ∙ e
-
--- one turn, with a time or without
-pub turn_written : {K : Type 0} (A : Arithmetic) (amount : K → List ℤ) (n m : ℕ) (xs : List (Cell K)) (place before after : List K) (t : K) → m < n → m < length place → after ≡ set place m t → Some (amount t) ≡ least A n (column amount n xs m) →
-    Earliest A amount n xs m place × (drop n place ≡ drop n before) → Earliest A amount n xs (m + 1) after × (drop n after ≡ drop n before)
-turn_written A amount n m xs place before after t p l e found inv =
-    (subst (Earliest A amount n xs (m + 1)) (sym e) (earliest_more A amount n m xs place t l found inv.0), ap (drop n) e ∙ rest_kept n m place before t p inv.1)
-
-pub turn_skipped : {K : Type 0} (A : Arithmetic) (amount : K → List ℤ) (n m : ℕ) (xs : List (Cell K)) (place before after : List K) → after ≡ place → None ≡ least A n (column amount n xs m) →
-    Earliest A amount n xs m place × (drop n place ≡ drop n before) → Earliest A amount n xs (m + 1) after × (drop n after ≡ drop n before)
-turn_skipped A amount n m xs place before after e none inv =
-    (subst (Earliest A amount n xs (m + 1)) (sym e) (earliest_skip A amount n m xs place none inv.0), ap (drop n) e ∙ inv.1)

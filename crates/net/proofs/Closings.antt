@@ -1,5 +1,5 @@
 -- What closing a net comes to.
-use Rattle.std.proofs.Common.{◌≡◌, ℕ, ◌-◌, ◌*◌, ◌/◌, ◌<◌, ◌≤◌, true, false, cond, leb, ◌↔◌, List, ℤ, Ok, Err, Result, sym, refl, ap, ◌∙◌, subst, ap₂, ⊎_elim, arith}
+use Rattle.std.proofs.Common.{◌≡◌, ℕ, ◌<◌, ◌≤◌, true, false, cond, leb, ◌↔◌, List, ℤ, Ok, Err, Result, sym, ap, ◌∙◌, subst, ap₂, ⊎_elim}
 use Rattle.std.proofs.lemmas.Bool.{cases_Bool, le-leb, lt-leb, cond-true, cond-false}
 use Rattle.kinds.specs.Arithmetic.{Arithmetic, Lawful, Inverse}
 use Rattle.walks.specs.Bounds.{InForce, Within}
@@ -11,36 +11,32 @@ use Rattle.order.specs.declared.counts.Counts.{Counts}
 use Rattle.order.specs.declared.event_order.EventOrder.{EventOrder}
 use Rattle.order.specs.Orderings.{events_of}
 use Rattle.order.specs.Counted.{counts_of}
-use Rattle.table.specs.declared.cell.Cell.{Cell}
+use Rattle.table.specs.declared.lent.Table.{Table}
 use Rattle.table.specs.Cells.{bounds, neighbours}
-use Rattle.closing.specs.Closed.{Closes, Ends}
+use Rattle.eliminator.specs.Views.{Same}
+use Rattle.closing.specs.declared.close.Contradiction.{Contradiction}
+use Rattle.closing.specs.Closed.{Closes, Ends, Holds}
 use Rattle.net.specs.declared.mode.Mode.{Mode}
 use Rattle.net.specs.declared.mode.Mode.TheVariants.{Open, Closed}
 use Rattle.net.specs.declared.net.Net.{Net}
-use Rattle.net.specs.State.{State, state, Sound}
+use Rattle.net.specs.State.{State, Outcome, state, outcome, Sound}
 use Rattle.net.specs.Kept.{Kept}
 use Rattle.net.specs.Closing.{closing, closed, in_mode}
-use Rattle.net.proofs.Outcomes.{same_state}
-use Rattle.net.proofs.Soundness.{sound_reordered}
-
-open_closed : Open ≡ Closed → ⊥
-open_closed e = let z : ◌≡◌ {A = ℕ} 0 1 = cc in omega arith
+use Rattle.net.proofs.States.{stated, stated_closed}
+use Rattle.net.proofs.Soundness.{sound_reordered, sound_after}
 
 -- an open net need only be sound
 pub kept_open : {K : Type 0} (A : Arithmetic) (amount : K → List ℤ) (net : Net K) → Sound A (state amount net) → net.mode ≡ Open → Kept A amount net
-kept_open A amount net h e = record { sound = h; holds = λ f. absurd (open_closed (sym e ∙ f)) }
+kept_open A amount net h e = record { sound = h; holds = λ f. let z : Open ≡ Closed = sym e ∙ f in cc }
+
+-- and is it after a call that its definition leaves sound
+pub kept_after : {K : Type 0} (A : Arithmetic) (amount : K → List ℤ) (net : Net K) (o : Outcome) → outcome (Ok tt) (state amount net) ≡ o → Sound A o.after → net.mode ≡ Open → Kept A amount net
+kept_after A amount net o e h = kept_open A amount net (sound_after A (outcome (Ok tt) (state amount net)) o e h)
 
 -- the place is too short
 pub close_short : (A : Arithmetic) (place : ℕ) (s : State) → place < s.events → closing (Err 5) s ≡ closed A place s
 unfolding closed
 close_short A place s l = sym (cond-false (leb s.events place) _ _ (lt-leb s.events place l))
-
--- no other answer is the refusal by 5
-pub counts_not_short : {P : Type 0} (counts : Counts) → ◌≡◌ {A = Result Counts ℕ} (Ok counts) (Err 5) → P
-counts_not_short counts e = let z : ◌≡◌ {A = ℕ} 0 1 = cc in absurd (omega arith)
-
-pub loop_not_short : {P : Type 0} → ◌≡◌ {A = Result Counts ℕ} (Err 16) (Err 5) → P
-loop_not_short e = let z : ◌≡◌ {A = ℕ} 16 5 = cc in absurd (omega arith)
 
 -- refused by 16 exactly where no schedule keeps every bound in force
 pub close_schedules : (A : Arithmetic) → Lawful A → (minus : List ℤ → List ℤ) → Inverse A minus → (place : ℕ) (s after : State) (r : Result Counts ℕ) → Sound A s → s.events ≤ place → closing r after ≡ closed A place s → (r ≡ Err 16) ↔ ¬ (Schedule A (InForce s.bounds))
@@ -52,59 +48,40 @@ close_schedules A L minus I place s after r h l e =
     ⊎_elim
     (λ t. let is : r ≡ Err 16 = ap (λ c. c.answer) (told ∙ cond-true (contradictory A s.events s.bounds) _ _ t) in ((λ _. claim.1.0 t), (λ _. is)))
     (λ t. let is : r ≡ Ok (counts_of s.events (neighbours s.bounds) s.order) = ap (λ c. c.answer) (told ∙ cond-false (contradictory A s.events s.bounds) _ _ t) in
-    ((λ f. not_both _ (sym is ∙ f)), (λ none. absurd (none (claim.0.0 t)))))
+    ((λ f. let z : Ok (counts_of s.events (neighbours s.bounds) s.order) ≡ Err 16 = sym is ∙ f in cc), (λ none. absurd (none (claim.0.0 t)))))
     (cases_Bool (contradictory A s.events s.bounds))
-  where
-    not_both : {P : Type 0} (counts : Counts) → ◌≡◌ {A = Result Counts ℕ} (Ok counts) (Err 16) → P
-    not_both counts f = let z : ◌≡◌ {A = ℕ} 0 1 = cc in absurd (omega arith)
 
-module _ {K : Type 0} (A : Arithmetic) (L : Lawful A) (amount : K → List ℤ) (n : ℕ) (order : EventOrder) (mode : Mode) (xs ys : List (Cell K)) (e : order.count ≡ n) where
-  abbrev before : ℕ → State
-  before m = record { events = m; bounds = bounds amount m xs; order = events_of order; mode = mode }
+-- the table before and after, with the bounds in force that it had
+module _ {K : Type 0} (A : Arithmetic) (L : Lawful A) (amount : K → List ℤ) (mode : Mode) (t u : Table K) (kept : Same t u) (same : bounds amount t.order.count u.cells.now ≡ bounds amount t.order.count t.cells.now) where
+  in_net : Sound A (stated amount t.order t.cells.now mode) → Within A t.order.count (bounds amount t.order.count t.cells.now)
+  in_net h = record { below = h.within; amounts = h.amounts }
 
-  at_count : Sound A (before n) → Sound A (before order.count)
-  at_count h = subst (λ m. Sound A (before m)) (sym e) h
-
-  within : Sound A (before n) → Within A order.count (bounds amount order.count xs)
-  within h = record { below = (at_count h).within; amounts = (at_count h).amounts }
-
-  pub closes : (place : List ℕ) (r : Result (Unit {0}) ℕ) → Sound A (before n) → Ends A amount order xs ys place r → Closes A amount order xs ys place r
-  closes place r h ends = ends L (within h) (at_count h).apart (at_count h).sized
+  pub closes : (place : List ℕ) (r : Result (Unit {0}) Contradiction) → Sound A (stated amount t.order t.cells.now mode) → Ends A amount t.order t.cells.now u.cells.now place r → Closes A amount t.order t.cells.now u.cells.now place r
+  closes place r h ends = ends L (in_net h) h.apart h.sized
 
   -- closed, with its counts
-  pub close_done : (place : ℕ) (counts : Counts) → n ≤ place → bounds amount order.count ys ≡ bounds amount order.count xs → contradictory A order.count (bounds amount order.count xs) ≡ false →
-      counts ≡ counts_of order.count (neighbours (bounds amount order.count ys)) (events_of order) →
-      closing (Ok counts) (record { events = n; bounds = bounds amount n ys; order = events_of order; mode = Closed }) ≡ closed A place (before n)
+  pub close_done : (place : ℕ) (counts : Counts) → t.order.count ≤ place → contradictory A t.order.count (bounds amount t.order.count t.cells.now) ≡ false →
+      counts ≡ counts_of u.order.count (neighbours (bounds amount u.order.count u.cells.now)) (events_of u.order) → closing (Ok counts) (stated amount u.order u.cells.now Closed) ≡ closed A place (stated amount t.order t.cells.now mode)
   unfolding closed
-  close_done place counts l same calm told =
-      subst (λ m. m ≤ place → closing (Ok counts) (record { events = m; bounds = bounds amount m ys; order = events_of order; mode = Closed }) ≡ closed A place (before m)) e
-      (λ l.
-      ap₂ closing (ap Ok (told ∙ ap (λ F. counts_of order.count (neighbours F) (events_of order)) same)) (same_state _ _ _ _ _ _ Closed refl same refl)
-      ∙ sym (cond-true (leb order.count place) _ _ (le-leb order.count place l) ∙ cond-false (contradictory A order.count (bounds amount order.count xs)) _ _ calm))
-      l
+  close_done place counts l calm told =
+      ap₂ closing
+      (ap Ok (told ∙ ap (λ (o : EventOrder). counts_of o.count (neighbours (bounds amount o.count u.cells.now)) (events_of o)) kept.order ∙ ap (λ F. counts_of t.order.count (neighbours F) (events_of t.order)) same))
+      (stated_closed amount t.order u.order t.cells.now u.cells.now mode Closed kept.order same)
+      ∙ sym (cond-true (leb t.order.count place) _ _ (le-leb t.order.count place l) ∙ cond-false (contradictory A t.order.count (bounds amount t.order.count t.cells.now)) _ _ calm)
 
   -- a loop contradicts
-  pub close_fails : (place : ℕ) (events : List ℕ) → n ≤ place → Sound A (before n) → bounds amount order.count ys ≡ bounds amount order.count xs → Loop A (InForce (bounds amount order.count xs)) events →
-      closing (Err 16) (record { events = n; bounds = bounds amount n ys; order = events_of order; mode = Open }) ≡ closed A place (before n)
+  pub close_fails : (place : ℕ) (events : List ℕ) → t.order.count ≤ place → Sound A (stated amount t.order t.cells.now mode) → Loop A (InForce (bounds amount t.order.count t.cells.now)) events →
+      closing (Err 16) (stated amount u.order u.cells.now Open) ≡ closed A place (stated amount t.order t.cells.now mode)
   unfolding closed
-  close_fails place events l h same loop =
-      let found : contradictory A order.count (bounds amount order.count xs) ≡ true = (contradiction A L order.count (bounds amount order.count xs) (within h)).1.1 (events, loop) in
-      subst (λ m. m ≤ place → closing (Err 16) (record { events = m; bounds = bounds amount m ys; order = events_of order; mode = Open }) ≡ closed A place (before m)) e
-      (λ l.
-      ap (closing (Err 16)) (same_state _ _ _ _ _ _ Open refl same refl)
-      ∙ sym (cond-true (leb order.count place) _ _ (le-leb order.count place l) ∙ cond-true (contradictory A order.count (bounds amount order.count xs)) _ _ found))
-      l
-
-  -- the same loop, among the net's own events
-  pub shown : (events : List ℕ) → Loop A (InForce (bounds amount order.count xs)) events → Loop A (InForce (bounds amount n xs)) events
-  shown events loop = subst (λ m. Loop A (InForce (bounds amount m xs)) events) e loop
+  close_fails place events l h loop =
+      let found : contradictory A t.order.count (bounds amount t.order.count t.cells.now) ≡ true = (contradiction A L t.order.count (bounds amount t.order.count t.cells.now) (in_net h)).1.1 (events, loop) in
+      ap (closing (Err 16)) (stated_closed amount t.order u.order t.cells.now u.cells.now mode Open kept.order same)
+      ∙ sym (cond-true (leb t.order.count place) _ _ (le-leb t.order.count place l) ∙ cond-true (contradictory A t.order.count (bounds amount t.order.count t.cells.now)) _ _ found)
 
   -- soundness lies in the bounds alone
-  pub sound_closed : (after : Mode) → bounds amount order.count ys ≡ bounds amount order.count xs → Sound A (before n) → Sound A (record { events = n; bounds = bounds amount n ys; order = events_of order; mode = after })
-  sound_closed after same h =
-      let there : bounds amount n ys ≡ bounds amount n xs = subst (λ m. bounds amount m ys ≡ bounds amount m xs) e same in
-      subst (λ F. Sound A (record { events = n; bounds = F; order = events_of order; mode = after })) (sym there) (sound_reordered A (before n) (events_of order) after h)
+  pub sound_closed : (then : Mode) → Sound A (stated amount t.order t.cells.now mode) → Sound A (stated amount u.order u.cells.now then)
+  sound_closed then h = subst (Sound A) (sym (stated_closed amount t.order u.order t.cells.now u.cells.now mode then kept.order same)) (sound_reordered A (stated amount t.order t.cells.now mode) (events_of t.order) then h)
 
-  -- looks among the net's own events
-  pub looks_bounded : (looks width : ℕ) → looks ≤ width * order.count * (order.count - 1) / 2 → looks ≤ width * n * (n - 1) / 2
-  looks_bounded looks width l = subst (λ m. looks ≤ width * m * (m - 1) / 2) e l
+  -- what the table holds
+  pub still_holds : Holds A amount t.order u.cells.now → Holds A amount u.order u.cells.now
+  still_holds = subst (λ o. Holds A amount o u.cells.now) (sym kept.order)

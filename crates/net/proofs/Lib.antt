@@ -1,7 +1,8 @@
 pub mod BoundsHeld
+pub mod States
 pub mod Outcomes
 pub mod Soundness
-pub mod Neighbourhoods
 pub mod RankingWhole
 pub mod Closings
+pub mod Neighbourhoods
 pub mod Askings

@@ -5,7 +5,7 @@ use Rattle.kinds.specs.Arithmetic.{Arithmetic, Amount}
 use Rattle.net.specs.declared.mode.Mode.{Mode}
 use Rattle.net.specs.declared.mode.Mode.TheVariants.{Open}
 use Rattle.net.specs.Limits.{most_events, cells_needed, most_size}
-use Rattle.net.specs.State.{State, Outcome, need, accepted, unbound, fresh, rebound, with_bound, lesser, both_events, begun, required, withdrawn, made, ordered_by, arranged, ranked, Sound}
+use Rattle.net.specs.State.{State, Outcome, need, accepted, unbound, fresh, rebound, with_bound, lesser, both_events, begun, required, withdrawn, made, ordered_by, arranged, Sound}
 use Rattle.order.specs.declared.event_order.Misordered.{Misordered}
 use Rattle.order.specs.Orderings as orderings
 
@@ -94,10 +94,6 @@ module _ (A : Arithmetic) where
       by_answer : (r : Result (List ℕ) Misordered) → Sound A (ordered_by s r).after
       by_answer (Ok events) = sound_reordered s events Open h
       by_answer (Err why) = h
-
-  pub sound_ranked : (s : State) → Sound A s → Sound A (ranked s).after
-  unfolding ranked
-  sound_ranked s h = sound_reordered s _ Open h
 
   -- an outcome's state is as sound as the definition's
   pub sound_after : (o p : Outcome) → o ≡ p → Sound A p.after → Sound A o.after

@@ -32,7 +32,7 @@ abbrev pub room : {K : Type 0} → Net K → ℕ
 room net = length (cells_of net)
 
 abbrev pub state : {K : Type 0} → (K → List ℤ) → Net K → State
-state amount net = record { events = net.events; bounds = bounds amount net.events (cells_of net); order = events_of net.order; mode = net.mode }
+state amount net = record { events = net.table.order.count; bounds = bounds amount net.table.order.count (cells_of net); order = events_of net.table.order; mode = net.mode }
 
 -- what a call answers, and the state after it
 pub record Outcome : Type 0 where
@@ -69,6 +69,10 @@ lesser A (Some v) w = cond (A.at_most v w) v w
 -- both are events of the net
 abbrev pub both_events : State → ℕ → ℕ → Bool
 both_events s i j = nat_lt i s.events && nat_lt j s.events
+
+-- whether i and j are among n events, and why not
+abbrev pub known : (n i j : ℕ) → Result (Unit {0}) Reason
+known n i j = cond (nat_lt i n && nat_lt j n) (Ok tt) (Err (by 3))
 
 -- whether a bound can join i and j among n events, and why not
 unfoldable pub paired : (n i j : ℕ) → Result (Unit {0}) Reason

@@ -1,57 +1,37 @@
 // The least of the distances to each event.
-ghost use Rattle.std.specs.Prelude.{◌≡◌, ◌*◌, ◌<◌, ◌≤◌, length, drop};
+ghost use Rattle.std.specs.Prelude.{◌≡◌, ◌<◌, ◌≤◌, length, drop};
 ghost use Rattle.table.specs.Cells.{amount_of};
-ghost use Rattle.walks.specs.Least.{lesser, least};
+ghost use Rattle.walks.specs.Least.{least};
 ghost use Rattle.net.specs.Times.{column, Earliest};
 
+use super::lesser::lesser;
 use kinds::kind::Kind;
-use std::cmp::Ordering;
-use table::cell::Cell;
-use table::grid::at;
-
-// The lesser of two distances, where there are two.
-fn earlier<K: Kind>(first: Option<K>, second: Option<K>) -> Option<K>
-    ensures { amount_of K.Kind.amount result ≡ lesser K.Kind.arithmetic (amount_of K.Kind.amount first) (amount_of K.Kind.amount second) }
-{
-    match first {
-        None => second,
-        Some(a) => match second {
-            None => Some(a),
-            Some(b) => match b.compare(a) {
-                Ordering::Less => Some(b),
-                Ordering::Equal => Some(a),
-                Ordering::Greater => Some(a),
-            },
-        },
-    }
-}
+use table::lent::Table;
 
 // The least of the distances to j.
-fn earliest<K: Kind>(cells: &[Cell<K>], n: usize, j: usize) -> Option<K>
-    requires few { n ≤ 128 }
-    requires fits { n * n ≤ length cells.now }
-    requires column { j < n }
-    ensures { amount_of K.Kind.amount result ≡ least K.Kind.arithmetic n (column K.Kind.amount n cells.now j) }
+fn earliest<K: Kind>(table: &Table<'_, K>, j: usize) -> Option<K>
+    requires { j < table.now.order.count }
+    ensures { amount_of K.Kind.amount result ≡ least K.Kind.arithmetic table.now.order.count (column K.Kind.amount table.now.order.count table.now.cells.now j) }
 {
     let mut best = None;
-    for i in 0..n {
-        let cell = at(cells, n, i, j);
-        best = earlier(best, cell.distance);
+    // a loop: `fold` would need the clauses of `lesser` on its closure
+    for i in 0..table.events() {
+        best = lesser(best, table.at(i, j).distance);
     }
     best
 }
 
-// Writes the least of the distances to each of n events, where there is one.
-pub fn write_times<K: Kind>(cells: &[Cell<K>], n: usize, place: &mut [K])
-    requires few { n ≤ 128 }
-    requires fits { n * n ≤ length cells.now }
-    requires room { n ≤ length place.old }
-    ensures times { Earliest K.Kind.arithmetic K.Kind.amount n cells.now n place.new }
-    ensures rest { drop n place.new ≡ drop n place.old }
+// Writes the least of the distances to each event, where there is one.
+// the caller has tested the length of the place, which is lent
+pub fn write_times<K: Kind>(table: &Table<'_, K>, place: &mut [K])
+    requires { table.now.order.count ≤ length place.old }
+    ensures times { Earliest K.Kind.arithmetic K.Kind.amount table.now.order.count table.now.cells.now table.now.order.count place.new }
+    ensures rest { drop table.now.order.count place.new ≡ drop table.now.order.count place.old }
 {
-    for j in 0..n {
-        if let Some(time) = earliest(cells, n, j) {
-            place[j] = time;
+    let times = &mut place[..table.events()];
+    for (j, time) in times.iter_mut().enumerate() {
+        if let Some(least) = earliest(table, j) {
+            *time = least;
         }
     }
 }

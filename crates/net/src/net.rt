@@ -1,10 +1,6 @@
 // A net over a table that is lent to it until the net's end.
-ghost use Rattle.std.specs.Prelude.{◌≡◌, ◌≤◌, length};
-ghost use Rattle.net.specs.Limits.{most_events, cells_needed};
-
-use super::lent::Table;
 use super::mode::Mode;
-use order::event_order::EventOrder;
+use table::lent::Table;
 
 pub mod close;
 pub mod distances;
@@ -14,13 +10,10 @@ pub mod ordering;
 pub mod questions;
 pub mod times;
 
+// That the room stays, and that a refusal alters nothing, stands at each call: a type speaks of one value, not of before and after.
 #[derive(Drop)]
 pub struct Net<'t, K> {
     table: Table<'t, K>,
-    events: usize,
-    order: EventOrder,
+    // a field beside the table: open or closed, the same cells are lent, and they change in place
     mode: Mode,
-    ghost few: { events ≤ most_events },
-    ghost fits: { cells_needed events ≤ length table.cells.now },
-    ghost ordered: { order.count ≡ events },
 }

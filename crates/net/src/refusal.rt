@@ -2,10 +2,12 @@
 ghost use Rattle.std.specs.Prelude.{◌≡◌};
 ghost use Rattle.net.specs.Lacks.{refusal_of};
 
+use closing::close::Contradiction;
 use order::event_order::Misordered;
 
 pub mod number;
 
+// No words of its own: programs print its number.
 #[derive(Clone, Copy, Debug, PartialEq, Eq)]
 pub enum Refusal {
     // the number of events is not from 1 to 128
@@ -34,6 +36,7 @@ pub enum Refusal {
     Contradiction(usize),
 }
 
+// Each lack is a refusal of its own: hosts know them by different numbers.
 impl From<Misordered> for Refusal {
     ghost from_gives = { λ why r. r ≡ refusal_of why };
 
@@ -43,5 +46,16 @@ impl From<Misordered> for Refusal {
             Misordered::Outside => Refusal::OutsideNet,
             Misordered::Again => Refusal::NamedTwice,
         }
+    }
+}
+
+// By hand: a derived `From` has no contract.
+impl From<Contradiction> for Refusal {
+    ghost use Rattle.net.specs.declared.refusal.Refusal.{Refusal};
+
+    ghost from_gives = { λ why r. r ≡ Refusal.Contradiction why.shown };
+
+    fn from(why: Contradiction) -> Refusal {
+        Refusal::Contradiction(why.shown)
     }
 }

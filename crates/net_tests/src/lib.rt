@@ -8,30 +8,16 @@ mod tests {
     use net::mode::Mode;
     use net::net::Net;
     use net::refusal::Refusal;
+    use order::counts::Counts;
     use std::test::Fail;
-    use table::cell::Cell;
+    use table::grid::blank;
 
+    // 2^40, written out: what a test expects comes from outside.
     const LARGEST: i64 = 1_099_511_627_776;
-
-    const EMPTY: Cell<Micros> = Cell {
-        bound: None,
-        worked: None,
-        via: None,
-        distance: None,
-        by: None,
-    };
-
-    const EMPTY_STRICT: Cell<StrictMicros> = Cell {
-        bound: None,
-        worked: None,
-        via: None,
-        distance: None,
-        by: None,
-    };
 
     #[test]
     fn begins_with_as_many_events_as_the_table_has_room_for(rt: HostRuntime) -> Result<(), Fail> {
-        let mut table = [EMPTY; 16384];
+        let mut table = [blank::<Micros>(); 16384];
         let mut net = Net::make(&mut table);
         assert_eq!(rt; net.events(), 0);
         assert_eq!(rt; net.mode(), Mode::Open);
@@ -48,7 +34,7 @@ mod tests {
 
     #[test]
     fn refuses_a_table_of_one_cell_less(rt: HostRuntime) -> Result<(), Fail> {
-        let mut table = [EMPTY; 16383];
+        let mut table = [blank::<Micros>(); 16383];
         let mut net = Net::make(&mut table);
         assert_eq!(rt; net.begin(128), Err(Refusal::TooFewCells));
         net.begin(127)?;
@@ -58,7 +44,7 @@ mod tests {
 
     #[test]
     fn takes_bounds_up_to_the_largest_size(rt: HostRuntime) -> Result<(), Fail> {
-        let mut table = [EMPTY; 9];
+        let mut table = [blank(); 9];
         let mut net = Net::make(&mut table);
         net.begin(3)?;
         net.require(0, 1, Micros(LARGEST))?;
@@ -75,31 +61,31 @@ mod tests {
             net.require(1, 1, Micros(LARGEST + 1)),
             Err(Refusal::SameEvent)
         );
-        assert_eq!(rt; net.bound(0, 1)?.ok_or("in force")?.0, LARGEST);
+        assert_eq!(rt; net.bound(0, 1), Ok(Some(Micros(LARGEST))));
         Ok(())
     }
 
     #[test]
     fn keeps_the_least_bound_until_it_is_withdrawn(rt: HostRuntime) -> Result<(), Fail> {
-        let mut table = [EMPTY; 4];
+        let mut table = [blank(); 4];
         let mut net = Net::make(&mut table);
         net.begin(2)?;
         net.require(0, 1, Micros(5))?;
         net.require(0, 1, Micros(9))?;
         net.require(1, 0, Micros(7))?;
-        assert_eq!(rt; net.bound(0, 1)?.ok_or("in force")?.0, 5);
+        assert_eq!(rt; net.bound(0, 1), Ok(Some(Micros(5))));
         net.withdraw(0, 1)?;
-        assert!(rt; net.bound(0, 1)?.is_none());
+        assert_eq!(rt; net.bound(0, 1), Ok(None));
         assert_eq!(rt; net.withdraw(0, 1), Err(Refusal::NothingToWithdraw));
-        assert_eq!(rt; net.bound(1, 0)?.ok_or("in force")?.0, 7);
+        assert_eq!(rt; net.bound(1, 0), Ok(Some(Micros(7))));
         net.require(0, 1, Micros(9))?;
-        assert_eq!(rt; net.bound(0, 1)?.ok_or("in force")?.0, 9);
+        assert_eq!(rt; net.bound(0, 1), Ok(Some(Micros(9))));
         Ok(())
     }
 
     #[test]
     fn refuses_what_is_no_ordering(rt: HostRuntime) -> Result<(), Fail> {
-        let mut table = [EMPTY; 9];
+        let mut table = [blank::<Micros>(); 9];
         let mut net = Net::make(&mut table);
         net.begin(3)?;
         assert_eq!(rt; net.arrange(&[0, 1]), Err(Refusal::WrongCount));
@@ -113,7 +99,7 @@ mod tests {
 
     #[test]
     fn ranks_by_fewest_neighbours(rt: HostRuntime) -> Result<(), Fail> {
-        let mut table = [EMPTY; 9];
+        let mut table = [blank(); 9];
         let mut net = Net::make(&mut table);
         net.begin(3)?;
         net.require(0, 2, Micros(5))?;
@@ -123,16 +109,18 @@ mod tests {
         assert_eq!(rt; net.event_at(2), Some(1));
         assert_eq!(rt; net.event_at(3), Some(0));
         let mut place = [0u8; 3];
-        let counts = net.close(&mut place)?;
-        assert_eq!(rt; counts.width, 1);
-        assert_eq!(rt; counts.fill, 0);
-        assert_eq!(rt; counts.looks, 3);
+        let expected = Counts {
+            width: 1,
+            fill: 0,
+            looks: 3,
+        };
+        assert_eq!(rt; net.close(&mut place), Ok(expected));
         Ok(())
     }
 
     #[test]
     fn closes_a_bus_cycle(rt: HostRuntime) -> Result<(), Fail> {
-        let mut table = [EMPTY; 9];
+        let mut table = [blank(); 9];
         let mut net = Net::make(&mut table);
         net.begin(3)?;
         net.require(0, 1, Micros(100))?;
@@ -142,23 +130,22 @@ mod tests {
         net.require(0, 2, Micros(200))?;
         assert!(rt; net.distance(0, 2).is_err());
         let mut place = [9u8; 4];
-        let counts = net.close(&mut place)?;
-        assert_eq!(rt; counts.width, 2);
-        assert_eq!(rt; counts.fill, 0);
-        assert_eq!(rt; counts.looks, 5);
+        let expected = Counts {
+            width: 2,
+            fill: 0,
+            looks: 5,
+        };
+        assert_eq!(rt; net.close(&mut place), Ok(expected));
         assert_eq!(rt; place, [9, 9, 9, 9]);
         assert_eq!(rt; net.mode(), Mode::Closed);
-        assert_eq!(rt; net.distance(0, 2)?.ok_or("a walk")?.0, 150);
-        let (low, high) = net.window(0, 2)?;
-        assert_eq!(rt; low.ok_or("a walk back")?.0, 50);
-        assert_eq!(rt; high.ok_or("a walk")?.0, 150);
-        assert_eq!(rt; net.walk(0, 2, &mut place)?, Some(3));
+        assert_eq!(rt; net.distance(0, 2), Ok(Some(Micros(150))));
+        let window = (Some(Micros(50)), Some(Micros(150)));
+        assert_eq!(rt; net.window(0, 2), Ok(window));
+        assert_eq!(rt; net.walk(0, 2, &mut place), Ok(Some(3)));
         assert_eq!(rt; place, [0, 1, 2, 9]);
         let mut times = [Micros(0); 3];
         net.times(&mut times)?;
-        assert_eq!(rt; times[0].0, -50);
-        assert_eq!(rt; times[1].0, -10);
-        assert_eq!(rt; times[2].0, 0);
+        assert_eq!(rt; times, [Micros(-50), Micros(-10), Micros(0)]);
         net.begin(3)?;
         assert_eq!(rt; net.times(&mut times), Err(Refusal::NotClosed));
         Ok(())
@@ -166,7 +153,7 @@ mod tests {
 
     #[test]
     fn shows_the_loop_of_a_contradiction(rt: HostRuntime) -> Result<(), Fail> {
-        let mut table = [EMPTY; 4];
+        let mut table = [blank(); 4];
         let mut net = Net::make(&mut table);
         net.begin(2)?;
         net.require(0, 1, Micros(1))?;
@@ -181,15 +168,14 @@ mod tests {
         net.withdraw(0, 1)?;
         net.require(0, 1, Micros(5))?;
         net.close(&mut place)?;
-        let (low, high) = net.window(0, 1)?;
-        assert_eq!(rt; low.ok_or("a walk back")?.0, 5);
-        assert_eq!(rt; high.ok_or("a walk")?.0, 5);
+        let window = (Some(Micros(5)), Some(Micros(5)));
+        assert_eq!(rt; net.window(0, 1), Ok(window));
         Ok(())
     }
 
     #[test]
     fn strict_bounds_leave_no_time(rt: HostRuntime) -> Result<(), Fail> {
-        let mut table = [EMPTY_STRICT; 4];
+        let mut table = [blank(); 4];
         let mut net = Net::make(&mut table);
         net.begin(2)?;
         net.require(

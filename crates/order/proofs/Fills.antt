@@ -9,7 +9,7 @@ use Rattle.order.specs.Elimination.{Graph, left, beside, degree, joined, after, 
 use Rattle.order.specs.Neighbours.{graph_of}
 use Rattle.order.specs.declared.counts.Counts.{Counts}
 use Rattle.order.specs.Counted.{counts_of}
-use Rattle.order.proofs.Counting.{count_up}
+use Rattle.marks.proofs.Counting.{count_up}
 use Rattle.order.proofs.Stretches.{stretch_step, stretch_length, stretch_none}
 use Rattle.order.proofs.Eliminations.{keep, and_off, left_below, left_more, left_past, after_none, after_more}
 use Rattle.order.proofs.Ranks.{joined_all}

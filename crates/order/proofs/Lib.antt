@@ -7,6 +7,7 @@ pub mod Counting
 pub mod Eliminations
 pub mod Ranks
 pub mod Visits
+pub mod Fewest
 pub mod Computed
 pub mod Pairings
 pub mod Fills

@@ -1,6 +1,6 @@
 -- What an ordering holds, said of its list of events.
-use Rattle.std.proofs.Common.{◌≡◌, ℕ, ◌+◌, ◌-◌, ◌<◌, ◌≤◌, ◌&&◌, ltb, leb, length, get_or, Some, None, sym, ap, ◌∙◌, subst, arith}
-use Rattle.std.proofs.lemmas.Bool.{cond-true, cond-false, lt-ltb, le-ltb, le-leb, lt-leb, and_from, and_left, and_right}
+use Rattle.std.proofs.Common.{◌≡◌, ℕ, ◌+◌, ◌-◌, ◌<◌, ◌≤◌, ◌&&◌, true, ltb, leb, length, get_or, Option, Some, None, is_some, IfSome, sym, ap, ◌∙◌, subst, arith}
+use Rattle.std.proofs.lemmas.Bool.{cond-true, cond-false, ltb-true, ltb-false, leb-true, and_parts}
 use Rattle.order.specs.declared.event_order.EventOrder.{EventOrder}
 use Rattle.order.specs.Orderings.{events_of, event_of_rank, rank_of_event}
 use Rattle.order.proofs.Stretches.{stretch_length, stretch_at, rank_there, rank_nowhere}
@@ -19,18 +19,17 @@ events_within o place l = subst (λ x. x < o.count) (sym (events_at o place l)) 
 pub events_differ : (o : EventOrder) (p q : ℕ) → p < o.count → q < o.count → get_or (events_of o) p 0 ≡ get_or (events_of o) q 0 → p ≡ q
 events_differ o p q a b e = sym (o.there p a) ∙ ap (λ x. get_or o.ranks x 0) (sym (events_at o p a) ∙ e ∙ events_at o q b) ∙ o.there q b
 
-pub events_all : (o : EventOrder) (event : ℕ) → event < o.count → get_or (events_of o) (get_or o.ranks event 0) 0 ≡ event
-events_all o event l = events_at o (get_or o.ranks event 0) (o.ranks_below event l) ∙ o.back event l
-
-pub event_told : (o : EventOrder) (rank : ℕ) → 1 ≤ rank → rank ≤ o.count → Some (get_or o.events (rank - 1) 0) ≡ event_of_rank (events_of o) rank
-event_told o rank a b = ap Some (sym (events_at o (rank - 1) (omega arith)))
-    ∙ sym (cond-true (ltb 0 rank && leb rank (length (events_of o))) _ _ (and_from _ _ (lt-ltb 0 rank (omega arith)) (le-leb rank _ (subst (λ n. rank ≤ n) (sym (events_count o)) b))))
-
-pub event_none_low : (o : EventOrder) (rank : ℕ) → rank < 1 → None ≡ event_of_rank (events_of o) rank
-event_none_low o rank a = sym (cond-false (ltb 0 rank && leb rank (length (events_of o))) _ _ (and_left _ _ (le-ltb 0 rank (omega arith))))
-
-pub event_none_high : (o : EventOrder) (rank : ℕ) → o.count < rank → None ≡ event_of_rank (events_of o) rank
-event_none_high o rank b = sym (cond-false (ltb 0 rank && leb rank (length (events_of o))) _ _ (and_right _ _ (lt-leb rank _ (subst (λ n. n < rank) (sym (events_count o)) b))))
+-- what is there exactly for the ranks of the ordering, and is then the event of that rank's place, is the event of the rank
+pub event_answered : (o : EventOrder) (rank : ℕ) (r : Option ℕ) {P : ℕ → Type 0} → is_some r ≡ (ltb 0 rank && leb rank o.count) → IfSome r P
+    → ((event : ℕ) → P event → event ≡ get_or o.events (rank - 1) 0) → r ≡ event_of_rank (events_of o) rank
+event_answered o rank (Some event) e p f =
+    let known : (ltb 0 rank && leb rank o.count) ≡ true = sym e in
+    let parts = and_parts _ _ known in
+    let low : 0 < rank = ltb-true 0 rank parts.0 in
+    let high : rank ≤ o.count = leb-true rank o.count parts.1 in
+    ap Some (f event p ∙ sym (events_at o (rank - 1) (omega arith)))
+    ∙ sym (cond-true (ltb 0 rank && leb rank (length (events_of o))) _ _ (ap (λ n. ltb 0 rank && leb rank n) (events_count o) ∙ known))
+event_answered o rank None e _ _ = sym (cond-false (ltb 0 rank && leb rank (length (events_of o))) _ _ (ap (λ n. ltb 0 rank && leb rank n) (events_count o) ∙ sym e))
 
 pub rank_told : (o : EventOrder) (event : ℕ) → event < o.count → rank_of_event (events_of o) event ≡ Some (get_or o.ranks event 0 + 1)
 rank_told o event l = rank_there o.events 0 o.count (get_or o.ranks event 0) event (omega arith) (subst (λ n. get_or o.ranks event 0 < n) (omega arith) (o.ranks_below event l)) (o.back event l)
@@ -39,3 +38,9 @@ rank_told o event l = rank_there o.events 0 o.count (get_or o.ranks event 0) eve
 
 pub rank_none : (o : EventOrder) (event : ℕ) → o.count ≤ event → rank_of_event (events_of o) event ≡ None
 rank_none o event l = rank_nowhere o.events 0 o.count event (λ p a b e. omega (arith, o.events_below p (omega arith)))
+
+-- what is there exactly for an event of the ordering, and is then one more than its place, is the rank of the event
+pub rank_answered : (o : EventOrder) (event : ℕ) (r : Option ℕ) {P : ℕ → Type 0} → is_some r ≡ ltb event o.count → IfSome r P
+    → ((rank : ℕ) → P rank → rank ≡ get_or o.ranks event 0 + 1) → r ≡ rank_of_event (events_of o) event
+rank_answered o event (Some rank) e p f = ap Some (f rank p) ∙ sym (rank_told o event (ltb-true event o.count (sym e)))
+rank_answered o event None e _ _ = sym (rank_none o event (ltb-false event o.count (sym e)))

@@ -1,12 +1,12 @@
 -- Pairs of members that are not neighbours, counted by visiting the members from the lowest up.
 use Rattle.std.proofs.Common.{◌≡◌, ℕ, zero, suc, ◌+◌, ◌*◌, ◌<◌, ◌≤◌, Bool, true, false, not, ◌&&◌, ◌||◌, eqb, List, sym, refl, ap, ◌∙◌, ap₂, ⊎_elim, add-zero, arith}
-use mathlib.Core.Path.{fun_ext}
-use Rattle.std.proofs.lemmas.Bool.{cases_eq, cases_lt, cases_Bool, eq-eqb, eqb-true, both_ways, and_parts, or_cases, or_right, not-true}
+use Rattle.std.proofs.lemmas.Bool.{cases_eq, cases_lt, cases_Bool, eq-eqb, eqb-true, both_ways, or_cases, or_right}
 use Rattle.marks.specs.declared.set.Marks.{Marks}
-use Rattle.marks.specs.Sets.{has, how_many}
+use Rattle.marks.specs.Sets.{has, how_many, Taken}
 use Rattle.order.specs.Elimination.{pairs, not_joined}
 use Rattle.order.specs.Neighbours.{graph_of}
-use Rattle.order.proofs.Counting.{count_agree, count_none, count_up, count_le, count_without}
+use Rattle.marks.proofs.Taking.{taken_still}
+use Rattle.marks.proofs.Counting.{count_agree, count_none, count_up, count_le, fewer}
 use Rattle.order.proofs.Eliminations.{keep}
 
 -- rows without a pair add nothing
@@ -63,44 +63,35 @@ with_one : (a b c : Bool) → a ≡ true → (b && c) ≡ ((a && b) && c)
 with_one true b c h = refl
 with_one false b c h = absurd (both_ways false refl h)
 
-pub pairing_turn : (sets : List Marks) (members rest rest' seen seen' news : Marks) (total d e : ℕ) → e < 128 → has rest e ≡ true → ((q : ℕ) → q < e → has rest q ≡ false)
-    → ((q : ℕ) → has rest' q ≡ (has rest q && not (eqb q e))) → ((q : ℕ) → has news q ≡ (has seen q && not (graph_of sets e q))) → ((q : ℕ) → has seen' q ≡ (has seen q || eqb q e))
+pub pairing_turn : (sets : List Marks) (members rest rest' seen seen' news : Marks) (total d e : ℕ) → Taken rest e rest'
+    → ((q : ℕ) → has news q ≡ (has seen q && not (graph_of sets e q))) → ((q : ℕ) → has seen' q ≡ (has seen q || eqb q e))
     → d ≡ how_many (has news) 128 → d ≤ 128 → Pairing sets members rest seen total → Pairing sets members rest' seen' (total + d)
-pairing_turn sets members rest rest' seen seen' news total d e small on low f g s de small_d h =
+pairing_turn sets members rest rest' seen seen' news total d e taken g s de small_d h =
     let p : ℕ → ℕ → Bool = not_joined (graph_of sets) (has members) in
-    let mine : has members e ≡ true = h.part e on in
-    let still : (q : ℕ) → has rest' q ≡ true → has rest q ≡ true = λ q r. (and_parts (has rest q) (not (eqb q e)) (sym (f q) ∙ r)).0 in
-    let other : (q : ℕ) → has rest' q ≡ true → q ≡ e → ⊥ = λ q r same. both_ways (eqb q e) (not-true (eqb q e) (and_parts (has rest q) (not (eqb q e)) (sym (f q) ∙ r)).1) (eq-eqb q e same) in
+    let mine : has members e ≡ true = h.part e taken.here in
+    let still : (q : ℕ) → has rest' q ≡ true → (has rest q ≡ true) × (e < q) = λ q r. taken_still rest e rest' taken q r in
     let seen_is' : (q : ℕ) → has seen' q ≡ (has members q && not (has rest' q)) = λ q. s q ∙ ap (λ b. b || eqb q e) (h.seen_is q)
-    ∙ one_gone (has members q) (has rest q) (eqb q e) (λ t. ap (has members) (eqb-true q e t) ∙ mine) ∙ ap (λ b. has members q && not b) (sym (f q)) in
-    let unseen : (q : ℕ) → e ≤ q → has seen q ≡ false = λ q l. ⊎_elim (λ t. absurd (omega (arith, h.ascending q e t on))) (λ t. t) (cases_Bool (has seen q)) in
-    let old : total ≡ pairs p e = h.counted e low unseen in
-    let below : (j : ℕ) → j < e → has seen j ≡ has members j = λ j l. h.seen_is j ∙ ap (λ b. has members j && not b) (low j l) ∙ keep (has members j) in
-    let new : d ≡ how_many (p e) e = de ∙ count_up (has news) e 128 (omega arith) (λ j l. g j ∙ ap (λ b. b && not (graph_of sets e j)) (unseen j l))
+    ∙ one_gone (has members q) (has rest q) (eqb q e) (λ t. ap (has members) (eqb-true q e t) ∙ mine) ∙ ap (λ b. has members q && not b) (sym (taken.others q)) in
+    let unseen : (q : ℕ) → e ≤ q → has seen q ≡ false = λ q l. ⊎_elim (λ t. absurd (omega (arith, h.ascending q e t taken.here))) (λ t. t) (cases_Bool (has seen q)) in
+    let old : total ≡ pairs p e = h.counted e taken.lowest unseen in
+    let below : (j : ℕ) → j < e → has seen j ≡ has members j = λ j l. h.seen_is j ∙ ap (λ b. has members j && not b) (taken.lowest j l) ∙ keep (has members j) in
+    let new : d ≡ how_many (p e) e = de ∙ count_up (has news) e 128 (let small = taken.small in omega arith) (λ j l. g j ∙ ap (λ b. b && not (graph_of sets e j)) (unseen j l))
     ∙ count_agree (has news) (p e) e (λ j l. g j ∙ ap (λ b. b && not (graph_of sets e j)) (below j l) ∙ with_one (has members e) (has members j) (not (graph_of sets e j)) mine) in
     let now_seen : has seen' e ≡ true = s e ∙ or_right (has seen e) (eqb e e) (eq-eqb e e refl) in
     let past : (k : ℕ) → ((q : ℕ) → q < k → has rest' q ≡ false) → (i : ℕ) → suc e ≤ i → i < k → has members i ≡ false = λ k lo i a b. ⊎_elim
     (λ m. let t : has seen' i ≡ true = seen_is' i ∙ ap₂ (λ x y. x && not y) m (lo i b) in
-    absurd (⊎_elim (λ old_one. omega (arith, h.ascending i e old_one on)) (λ same. omega (arith, eqb-true i e same)) (or_cases (has seen i) (eqb i e) (sym (s i) ∙ t))))
+    absurd (⊎_elim (λ old_one. omega (arith, h.ascending i e old_one taken.here)) (λ same. omega (arith, eqb-true i e same)) (or_cases (has seen i) (eqb i e) (sym (s i) ∙ t))))
     (λ m. m) (cases_Bool (has members i)) in
     record {
-      part = λ q r. h.part q (still q r);
+      part = λ q r. h.part q (still q r).0;
       seen_is = seen_is';
       ascending = λ x y a r. ⊎_elim
-          (λ t. h.ascending x y t (still y r))
-          (λ same. let ne : y ≡ e → ⊥ = other y r in let xe : x ≡ e = eqb-true x e same in
-          ⊎_elim (λ l. absurd (both_ways (has rest y) (low y l) (still y r))) (λ l. ⊎_elim (λ z. absurd (ne z)) (λ nz. omega arith) (cases_eq y e)) (cases_lt y e))
+          (λ t. h.ascending x y t (still y r).0)
+          (λ same. let xe : x ≡ e = eqb-true x e same in omega (arith, (still y r).1))
           (or_cases (has seen x) (eqb x e) (sym (s x) ∙ a));
       counted = λ k lo hi.
           let le : e < k = ⊎_elim (λ l. l) (λ l. absurd (both_ways (has seen' e) (hi e l) now_seen)) (cases_lt e k) in
           ap₂ (λ x y. x + y) old new ∙ sym (pairs_more p e)
           ∙ sym (pairs_skip p (suc e) k (omega arith) (λ i j a b. no_row (has members i) (has members j) (not (graph_of sets i j)) (past k lo i a b)));
-      bounded =
-          let c : how_many (has rest') 128 ≡ how_many (λ x. has rest x && not (eqb x e)) 128 = ap (λ u. how_many u 128) (fun_ext f) in
-          omega (arith, h.bounded, count_without (has rest) e 128 on small);
+      bounded = omega (arith, h.bounded, fewer rest rest' e taken);
     }
-
-pub pairing_ends : (sets : List Marks) (members rest seen : Marks) (total n : ℕ) → ((q : ℕ) → has rest q ≡ false) → ((q : ℕ) → has members q ≡ true → q < n) → Pairing sets members rest seen total
-    → total ≡ pairs (not_joined (graph_of sets) (has members)) n
-pairing_ends sets members rest seen total n none within h = h.counted n (λ q l. none q)
-    (λ q l. ⊎_elim (λ t. absurd (omega (arith, within q (and_parts (has members q) (not (has rest q)) (sym (h.seen_is q) ∙ t)).0))) (λ t. t) (cases_Bool (has seen q)))

@@ -8,7 +8,7 @@ use Rattle.order.specs.Orderings.{stretch}
 use Rattle.order.specs.Elimination.{Graph, left, beside, degree, joined, after}
 use Rattle.order.specs.Ranking.{Fewest, Ranked}
 use Rattle.order.specs.Neighbours.{graph_of, Chosen, free_degree}
-use Rattle.order.proofs.Counting.{count_agree, count_none, count_up, count_without, count_all}
+use Rattle.marks.proofs.Counting.{count_agree, count_none, count_up, count_without, count_all}
 use Rattle.order.proofs.Stretches.{stretch_set, stretch_none, absent}
 use Rattle.order.proofs.Eliminations.{keep, and_off, left_below, left_absent, left_past, left_more, after_none, after_more}
 

@@ -2,10 +2,8 @@
 use Rattle.std.specs.Prelude.{◌≡◌, ℕ, ◌<◌, ◌≤◌, true, ◌&&◌, List, slice_index_or}
 use Rattle.marks.specs.declared.set.Marks.{Marks}
 use Rattle.marks.specs.Sets.{has, how_many}
+pub use Rattle.marks.specs.Sets.{no_marks}
 use Rattle.order.specs.Elimination.{Graph}
-
-abbrev pub no_marks : Marks
-no_marks = record { low = 0; high = 0 }
 
 -- which events the sets say are neighbours
 abbrev pub graph_of : List Marks → Graph

@@ -1,5 +1,5 @@
 // What an elimination counts.
-#[derive(Clone, Copy)]
+#[derive(Clone, Copy, Debug, PartialEq, Eq)]
 pub struct Counts {
     // the greatest number of lower-ranked neighbours met at one elimination
     pub width: u32,

@@ -11,12 +11,6 @@ use super::event_order::EventOrder;
 use super::neighbours::join;
 use marks::set::Marks;
 
-fn greater(a: u32, b: u32) -> u32
-    ensures { result ≡ max a b }
-{
-    if a < b { b } else { a }
-}
-
 // How many pairs of members are not neighbours yet: each pair is met at its greater member.
 fn pairs_apart(near: &[Marks], members: Marks) -> u32
     requires { (q : ℕ) → has members q ≡ true → q < length near.now }
@@ -25,9 +19,7 @@ fn pairs_apart(near: &[Marks], members: Marks) -> u32
 {
     let mut total = 0;
     let mut seen = Marks::none();
-    let mut rest = members;
-    while let Some(event) = rest.first() {
-        rest = rest.without(event);
+    for event in members.members() {
         total += seen.difference(near[event]).count();
         seen = seen.with(event);
     }
@@ -42,17 +34,16 @@ pub fn count_elimination(near: &mut [Marks], order: &EventOrder) -> Counts
     ensures ended { graph_of near.new ≡ after order.now.count (graph_of near.old) (events_of order.now) }
 {
     let mut free = Marks::all_below(order.count);
-    let mut place = order.count;
     let mut width = 0;
     let mut fill = 0;
     let mut looks = 0;
-    while place > 0 {
-        place -= 1;
+    for place in (0..order.count).rev() {
         let event = order.events[place] as usize;
         free = free.without(event);
+        // the step of `rank`, but the pairs are counted before they are joined
         let lower = near[event].intersection(free);
         let degree = lower.count();
-        width = greater(width, degree);
+        width = width.max(degree);
         fill += pairs_apart(near, lower);
         looks += (place as u32) * degree;
         join(near, lower);

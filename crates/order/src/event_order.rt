@@ -2,9 +2,12 @@
 ghost use Rattle.std.specs.Prelude.{◌≡◌, ℕ, ◌<◌, ◌≤◌, slice_index};
 
 // Which event stands at each place and at which place each event stands; places count from 0, ranks from 1.
-// The one undoes the other below `count`, so no event is left out and none stands twice.
+// The one undoes the other below `count`, so no event is left out and none stands twice. Arrays, since no heap is used.
+// No derived equality: it would compare the bytes past `count` too.
+// Bytes and indices become each other by `as`: what is below `count` loses nothing.
 #[derive(Clone, Copy)]
 pub struct EventOrder {
+    // 128 as a number, in the crates above too: contracts and facts have it so, and a constant would be a second name.
     pub events: [u8; 128],
     pub ranks: [u8; 128],
     pub count: usize,
@@ -16,7 +19,7 @@ pub struct EventOrder {
 }
 
 // Why a list is no ordering of n events.
-#[derive(Clone, Copy)]
+#[derive(Clone, Copy, Debug, PartialEq, Eq)]
 pub enum Misordered {
     // it does not have n events, or n is more than 128
     Count,

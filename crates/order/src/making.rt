@@ -3,22 +3,20 @@ ghost use Rattle.std.specs.Prelude.{◌≡◌, ℕ, ◌<◌, ◌≤◌, List, le
 ghost use Rattle.order.specs.Orderings.{events_of, upto, event_of_rank, rank_of_event, told, arranged};
 
 use super::event_order::{EventOrder, Misordered};
+use marks::set::Marks;
+use std::array;
 
 impl EventOrder {
     // Event i at rank i + 1.
+    // a plain number: a type of those up to 128 would only move the test to the callers
     pub fn identity(n: usize) -> EventOrder
         requires { n ≤ 128 }
         ensures { events_of result ≡ upto n }
     {
-        let mut events = [0u8; 128];
-        let mut ranks = [0u8; 128];
-        for k in 0..n {
-            events[k] = k as u8;
-            ranks[k] = k as u8;
-        }
+        let places = array::from_fn(|k| k as u8);
         EventOrder {
-            events,
-            ranks,
+            events: places,
+            ranks: places,
             count: n,
         }
     }
@@ -30,17 +28,21 @@ impl EventOrder {
         if n > 128 || list.len() != n {
             return Err(Misordered::Count);
         }
+        // two arrays by index: each turn writes one place of either
         let mut events = [0u8; 128];
-        let mut ranks = [255u8; 128];
-        for k in 0..n {
-            let event = list[k] as usize;
+        let mut ranks = [0u8; 128];
+        let mut named = Marks::none();
+        for (k, &number) in list.iter().enumerate() {
+            let event = number as usize;
             if event >= n {
                 return Err(Misordered::Outside);
             }
-            if ranks[event] != 255 {
+            if named.contains(event) {
                 return Err(Misordered::Again);
             }
-            events[k] = event as u8;
+            named = named.with(event);
+            // two arrays, here and in `rank`: an EventOrder has its facts only once every place is filled
+            events[k] = number;
             ranks[event] = k as u8;
         }
         Ok(EventOrder {
@@ -60,21 +62,15 @@ impl EventOrder {
     pub fn event_at(&self, rank: usize) -> Option<usize>
         ensures { result ≡ event_of_rank (events_of self.now) rank }
     {
-        if rank >= 1 && rank <= self.count {
-            Some(self.events[rank - 1] as usize)
-        } else {
-            None
-        }
+        (1..=self.count)
+            .contains(&rank)
+            .then(|| self.events[rank - 1] as usize)
     }
 
     // The rank, from 1 to n, of an event below n.
     pub fn rank_of(&self, event: usize) -> Option<usize>
         ensures { result ≡ rank_of_event (events_of self.now) event }
     {
-        if event < self.count {
-            Some(self.ranks[event] as usize + 1)
-        } else {
-            None
-        }
+        (event < self.count).then(|| self.ranks[event] as usize + 1)
     }
 }

@@ -1,4 +1,5 @@
 // A graph as one set of neighbours for each event: who becomes a neighbour, and who has fewest.
+// The sets and the members are no struct, since a caller asks of the same sets with other members each time.
 ghost use Rattle.std.specs.Prelude.{◌≡◌, ℕ, ◌<◌, true, false, length, MatchOption};
 ghost use Rattle.marks.specs.Sets.{has};
 ghost use Rattle.order.specs.Elimination.{joined};
@@ -12,9 +13,7 @@ pub fn join(near: &mut [Marks], members: Marks)
     requires { (q : ℕ) → has members q ≡ true → q < length near.old }
     ensures { (i j : ℕ) → graph_of near.new i j ≡ joined (graph_of near.old) (has members) i j }
 {
-    let mut rest = members;
-    while let Some(event) = rest.first() {
-        rest = rest.without(event);
+    for event in members.members() {
         near[event] = near[event].union(members.without(event));
     }
 }
@@ -25,16 +24,6 @@ pub fn fewest(near: &[Marks], free: Marks) -> Option<usize>
     ensures value { result ≡ best (free_degree near.now free) (has free) (length near.now) }
     ensures chosen { MatchOption result ((x : ℕ) → has free x ≡ false) (λ e. Chosen near.now free (length near.now) e) }
 {
-    let mut best = None;
-    let mut least = 129;
-    let mut rest = free;
-    while let Some(event) = rest.first() {
-        rest = rest.without(event);
-        let degree = near[event].intersection(free).count();
-        if degree < least {
-            best = Some(event);
-            least = degree;
-        }
-    }
-    best
+    free.members()
+        .min_by_key(|&event| near[event].intersection(free).count())
 }

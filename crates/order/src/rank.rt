@@ -18,10 +18,12 @@ pub fn rank(near: &mut [Marks]) -> EventOrder
     ensures ended { graph_of near.new ≡ after (length near.old) (graph_of near.old) (events_of result) }
 {
     let count = near.len();
+    // two arrays by index: each turn writes one place of either
     let mut events = [0u8; 128];
     let mut ranks = [0u8; 128];
     let mut free = Marks::all_below(count);
     let mut place = count;
+    // Counted by hand: a `for` over the places would need a way out for the event that is always there.
     while let Some(event) = fewest(near, free) {
         place -= 1;
         events[place] = event as u8;

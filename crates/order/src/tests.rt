@@ -1,4 +1,5 @@
 // Orderings, ranking and counts run on small cases.
+use super::counts::Counts;
 use super::eliminating::count_elimination;
 use super::event_order::{EventOrder, Misordered};
 use super::rank::rank;
@@ -23,26 +24,26 @@ fn identity_gives_event_i_rank_i_plus_one(rt: HostRuntime) {
 
 #[test]
 fn a_list_tells_ranks_both_ways(rt: HostRuntime) -> Result<(), Fail> {
-    match EventOrder::from_list(&[2, 0, 1], 3) {
-        Ok(order) => {
-            assert_eq!(rt; order.event_at(1), Some(2));
-            assert_eq!(rt; order.rank_of(1), Some(3));
-            Ok(())
-        }
-        Err(_) => Err(Fail::new("refused")),
-    }
+    let order = EventOrder::from_list(&[2, 0, 1], 3).map_err(|_| Fail::new("refused"))?;
+    assert_eq!(rt; order.event_at(1), Some(2));
+    assert_eq!(rt; order.rank_of(1), Some(3));
+    Ok(())
 }
 
 #[test]
 fn the_first_fault_is_told(rt: HostRuntime) {
-    assert!(rt; matches!(EventOrder::from_list(&[0, 1], 3), Err(Misordered::Count)));
-    assert!(rt;
-        matches!(
-            EventOrder::from_list(&[0, 3, 3], 3),
-            Err(Misordered::Outside)
-        )
+    assert_eq!(rt;
+        EventOrder::from_list(&[0, 1], 3).err(),
+        Some(Misordered::Count)
     );
-    assert!(rt; matches!(EventOrder::from_list(&[1, 1, 9], 3), Err(Misordered::Again)));
+    assert_eq!(rt;
+        EventOrder::from_list(&[0, 3, 3], 3).err(),
+        Some(Misordered::Outside)
+    );
+    assert_eq!(rt;
+        EventOrder::from_list(&[1, 1, 9], 3).err(),
+        Some(Misordered::Again)
+    );
     assert!(rt; EventOrder::from_list(&[1, 0, 2], 3).is_ok());
 }
 
@@ -61,7 +62,10 @@ fn an_elimination_is_counted(rt: HostRuntime) {
     let order = EventOrder::identity(3);
     assert!(rt; order.count == 3);
     let counts = count_elimination(&mut near, &order);
-    assert_eq!(rt; counts.width, 2);
-    assert_eq!(rt; counts.fill, 1);
-    assert_eq!(rt; counts.looks, 5);
+    let expected = Counts {
+        width: 2,
+        fill: 1,
+        looks: 5,
+    };
+    assert_eq!(rt; counts, expected);
 }

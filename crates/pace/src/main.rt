@@ -6,126 +6,119 @@
 mod floyd;
 mod shapes;
 
-use floyd::{close_plainly, entry_of, square_of};
+use floyd::Square;
 use kinds::micros::Micros;
 use net::net::Net;
-use shapes::{Demand, EVENTS, SHAPES, Shape, drafted, name_of};
-use std::alloc::{AllocError, Global};
+use net::refusal::Refusal;
+use order::counts::Counts;
+use shapes::{Demand, EVENTS, SHAPES, Shape, drafted};
 use std::env;
+use std::rt::{Clock, Env};
 use std::time::Instant;
-use table::cell::Cell;
 use table::grid::blank;
 
 const ROUNDS: usize = 40;
 
-fn blank_table(heap: Global) -> Result<Vec<Cell<Micros>>, AllocError> {
-    let mut cells = Vec::new(heap);
-    for _ in 0..EVENTS * EVENTS {
-        cells.push(blank())?;
-    }
-    Ok(cells)
-}
-
 // Lays the bounds down and ranks the events.
-fn lay(net: &mut Net<'_, Micros>, demands: &Vec<Demand>) -> bool {
-    let mut accepted = net.begin(EVENTS).is_ok();
-    for demand in demands.iter() {
-        let answer = net.require(demand.from, demand.to, Micros(demand.bound));
-        accepted = accepted && answer.is_ok();
+fn lay(net: &mut Net<'_, Micros>, demands: &[Demand]) -> Result<(), Refusal> {
+    net.begin(EVENTS)?;
+    for demand in demands {
+        net.require(demand.from, demand.to, Micros(demand.bound))?;
     }
     net.rank();
-    accepted
+    Ok(())
 }
 
-fn agree(net: &Net<'_, Micros>, square: &Vec<Option<i64>>) -> bool {
-    for i in 0..EVENTS {
-        for j in 0..EVENTS {
-            let told = match net.distance(i, j) {
-                Ok(Some(distance)) => Some(distance.0),
-                Ok(None) => None,
-                Err(_) => return false,
-            };
-            if told != entry_of(square, i, j) {
-                return false;
-            }
-        }
-    }
-    true
+fn agree(net: &Net<'_, Micros>, square: &Square) -> bool {
+    (0..EVENTS).all(|i| {
+        (0..EVENTS).all(|j| {
+            net.distance(i, j).is_ok_and(|distance| distance.map(|micros| micros.0)
+                == square.at(i, j))
+        })
+    })
 }
 
-fn compare(rt: &HostRuntime, shape: Shape) -> anyhow::Result<()> {
+fn compare(rt: &(impl Print + AllocGlobal), shape: Shape) -> anyhow::Result<()> {
     let heap = rt.alloc();
     let demands = drafted(heap, shape)?;
-    let mut cells = blank_table(heap)?;
+    let mut cells = vec![in heap; blank(); EVENTS * EVENTS]?;
     let mut net = Net::make(cells.as_mut_slice());
-    let mut place = [0u8; EVENTS];
-    let mut square = square_of(heap, &demands)?;
-    let accepted = lay(&mut net, &demands);
-    close_plainly(&mut square);
-    let name = name_of(shape);
+    let mut square = Square::of_bounds(heap, demands.as_slice())?;
+    let laid = lay(&mut net, demands.as_slice());
+    square.close();
     let bounds = demands.len();
-    match net.close(&mut place) {
-        Ok(counts) => {
-            let width = counts.width;
-            let fill = counts.fill;
-            let looks = counts.looks;
-            let verdict = if accepted && agree(&net, &square) {
+    match net.close(&mut [0; EVENTS]) {
+        Ok(Counts { width, fill, looks }) => {
+            let verdict = if laid.is_ok() && agree(&net, &square) {
                 "agrees"
             } else {
                 "differs"
             };
             println!(rt;
-                "{name}: {bounds} bounds, width {width}, fill {fill}, looks {looks}, {verdict}"
+                "{shape}: {bounds} bounds, width {width}, fill {fill}, looks {looks}, {verdict}"
             )?;
         }
-        Err(_) => println!(rt; "{name}: refused")?,
+        Err(_) => println!(rt; "{shape}: refused")?,
     }
     Ok(())
 }
 
+// A bool, since it is printed as one; `compare` tells the rest.
 fn close_once(net: &mut Net<'_, Micros>) -> bool {
-    let mut place = [0u8; EVENTS];
-    net.close(&mut place).is_ok()
+    net.close(&mut [0; EVENTS]).is_ok()
+}
+
+// How long the work takes, in nanoseconds.
+fn timed<F: FnOnce()>(rt: &impl Clock, work: F) -> anyhow::Result<u128>
+    requires { F.IsAlwaysCallable work }
+{
+    let start = Instant::now(rt)?;
+    work();
+    Ok(start.elapsed(rt)?.as_nanos())
 }
 
 // The least time of several rounds, so that other work on the machine counts little.
-fn time_close(rt: &HostRuntime, demands: &Vec<Demand>) -> anyhow::Result<u128> {
-    let mut cells = blank_table(rt.alloc())?;
+fn least<F: FnMut() -> anyhow::Result<u128>>(mut round: F) -> anyhow::Result<u128>
+    requires { F.IsAlwaysCallable round }
+{
+    let mut least = u128::MAX;
+    for _ in 0..ROUNDS {
+        least = least.min(round()?);
+    }
+    Ok(least)
+}
+
+fn time_close(rt: &(impl Clock + AllocGlobal), demands: &[Demand]) -> anyhow::Result<u128> {
+    let mut cells = vec![in rt.alloc(); blank(); EVENTS * EVENTS]?;
     let mut net = Net::make(cells.as_mut_slice());
+    // whether all is accepted is told by `compare`
     let _ = lay(&mut net, demands);
-    let mut least = u128::MAX;
-    for _ in 0..ROUNDS {
-        let start = Instant::now(rt)?;
+    least(|| timed(rt, || {
         let _ = close_once(&mut net);
-        least = least.min(start.elapsed(rt)?.as_nanos());
-    }
-    Ok(least)
+    }))
 }
 
-fn time_floyd(rt: &HostRuntime, demands: &Vec<Demand>) -> anyhow::Result<u128> {
-    let mut least = u128::MAX;
-    for _ in 0..ROUNDS {
-        let mut square = square_of(rt.alloc(), demands)?;
-        let start = Instant::now(rt)?;
-        close_plainly(&mut square);
-        least = least.min(start.elapsed(rt)?.as_nanos());
-    }
-    Ok(least)
+fn time_floyd(rt: &(impl Clock + AllocGlobal), demands: &[Demand]) -> anyhow::Result<u128> {
+    least(|| {
+        let mut square = Square::of_bounds(rt.alloc(), demands)?;
+        timed(rt, || square.close())
+    })
 }
 
-fn time(rt: &HostRuntime, shape: Shape) -> anyhow::Result<()> {
+fn time(rt: &(impl Print + Clock + AllocGlobal), shape: Shape) -> anyhow::Result<()> {
     let demands = drafted(rt.alloc(), shape)?;
-    let close = time_close(rt, &demands)?;
-    let floyd = time_floyd(rt, &demands)?;
+    let close = time_close(rt, demands.as_slice())?;
+    let floyd = time_floyd(rt, demands.as_slice())?;
+    // by division: a ratio of whole numbers has no Display
     let hundredths = floyd.wrapping_mul(100) / close.max(1);
     let whole = hundredths / 100;
     let part = hundredths % 100;
-    let name = name_of(shape);
-    println!(rt; "{name}: Floyd-Warshall takes {whole}.{part:02} times as long as one close")?;
+    println!(rt; "{shape}: Floyd-Warshall takes {whole}.{part:02} times as long as one close")?;
     Ok(())
 }
 
 // What is to be done once, to have its instructions counted.
+// Clone and Copy alone: nothing compares or prints a task.
 #[derive(Clone, Copy)]
 enum Task {
     Build,
@@ -133,47 +126,50 @@ enum Task {
     Floyd,
 }
 
-fn task_of(word: &str) -> Task {
-    if word == "close" {
-        return Task::Close;
+impl From<&str> for Task {
+    fn from(word: &str) -> Task {
+        match word {
+            "close" => Task::Close,
+            "floyd" => Task::Floyd,
+            _ => Task::Build,
+        }
     }
-    if word == "floyd" {
-        return Task::Floyd;
-    }
-    Task::Build
 }
 
-fn once(rt: &HostRuntime, shape: Shape, task: Task) -> anyhow::Result<()> {
+fn once(rt: &(impl Print + AllocGlobal), shape: Shape, task: Task) -> anyhow::Result<()> {
     let heap = rt.alloc();
     let demands = drafted(heap, shape)?;
-    let mut cells = blank_table(heap)?;
+    let mut cells = vec![in heap; blank(); EVENTS * EVENTS]?;
     let mut net = Net::make(cells.as_mut_slice());
-    let mut square = square_of(heap, &demands)?;
-    let laid = lay(&mut net, &demands);
+    let mut square = Square::of_bounds(heap, demands.as_slice())?;
+    let laid = lay(&mut net, demands.as_slice()).is_ok();
     let done = match task {
         Task::Build => laid,
         Task::Close => close_once(&mut net),
         Task::Floyd => {
-            close_plainly(&mut square);
+            square.close();
             laid
         }
     };
-    let far = entry_of(&square, 0, 127).unwrap_or(0);
+    // 0 where there is no walk: it is printed so that no work is left out
+    let far = square.at(0, 127).unwrap_or(0);
     println!(rt; "{done} {far}")?;
     Ok(())
 }
 
-fn run(rt: &HostRuntime) -> anyhow::Result<()> {
+fn run(rt: &(impl Print + Clock + Env + AllocGlobal)) -> anyhow::Result<()> {
     let mut words = env::args(rt)?.skip(1);
-    let first = words.next();
-    let second = words.next();
-    for shape in SHAPES.iter() {
-        match (&first, &second) {
-            (None, _) => compare(rt, *shape)?,
-            (Some(_), None) => time(rt, *shape)?,
-            (Some(name), Some(what)) => {
-                if name.as_str() == name_of(*shape) {
-                    once(rt, *shape, task_of(what.as_str()))?;
+    let name = words.next();
+    let task = words.next();
+    for shape in SHAPES {
+        // asked for each of six shapes: a closure for each of the three runs would be longer
+        match (&name, &task) {
+            (None, _) => compare(rt, shape)?,
+            (Some(_), None) => time(rt, shape)?,
+            (Some(name), Some(task)) => {
+                // by name: a word that names no shape prints nothing
+                if name.as_str() == shape.name() {
+                    once(rt, shape, Task::from(task.as_str()))?;
                 }
             }
         }

@@ -1,8 +1,13 @@
 // The nets of the benchmark: 128 events each, all of them free of contradiction.
-use std::alloc::{AllocError, Global};
+ghost use Rattle.std.specs.Prelude.{◌<◌};
 
+use std::alloc::{AllocError, Global};
+use std::fmt;
+
+// How many events are measured, whatever the limit of a net is.
 pub const EVENTS: usize = 128;
 
+// Clone and Copy alone in this file: nothing compares these values.
 #[derive(Clone, Copy)]
 pub enum Shape {
     // one event after the other
@@ -11,7 +16,8 @@ pub enum Shape {
     Diamonds,
     // each event bound to two earlier ones, rather to those with many bounds
     ScaleFree,
-    // a common start, jobs of eight steps released and due from it, and eight machines that take the jobs in turn
+    // a common start in the place of the last step, sixteen jobs of eight steps released and due from it, and eight
+    // machines that take the jobs in turn
     JobShop,
     // sixteen jobs of eight steps and eight machines, without a common start
     JobsAlone,
@@ -28,17 +34,26 @@ pub const SHAPES: [Shape; 6] = [
     Shape::Dense,
 ];
 
-pub fn name_of(shape: Shape) -> &'static str {
-    match shape {
-        Shape::Chain => "chain",
-        Shape::Diamonds => "diamonds",
-        Shape::ScaleFree => "scale-free",
-        Shape::JobShop => "job-shop",
-        Shape::JobsAlone => "jobs-alone",
-        Shape::Dense => "dense",
+impl Shape {
+    pub fn name(self) -> &'static str {
+        match self {
+            Shape::Chain => "chain",
+            Shape::Diamonds => "diamonds",
+            Shape::ScaleFree => "scale-free",
+            Shape::JobShop => "job-shop",
+            Shape::JobsAlone => "jobs-alone",
+            Shape::Dense => "dense",
+        }
     }
 }
 
+impl fmt::Display for Shape {
+    fn fmt<W: fmt::Write>(&self, f: &mut fmt::Formatter<W>) -> fmt::Result {
+        f.write_str(self.name())
+    }
+}
+
+// Pace's own: the trial's demands have a mark besides.
 #[derive(Clone, Copy)]
 pub struct Demand {
     pub from: usize,
@@ -46,25 +61,23 @@ pub struct Demand {
     pub bound: i64,
 }
 
-// Bounds under way, with a generator of numbers of its own.
+// Bounds under way, with a generator of numbers of its own: another than the trial's, so that the nets that were
+// measured stay as they are.
 #[derive(Drop)]
 struct Draft {
     demands: Vec<Demand>,
     state: u64,
 }
 
-fn start_of(demands: &Vec<Demand>, at: usize) -> usize {
-    match demands.get(at) {
-        Some(demand) => demand.from,
-        None => 0,
-    }
-}
-
 impl Draft {
-    fn below(&mut self, n: usize) -> usize {
+    // A number below n, or 0 where n is 0.
+    // The first draw of `popular` is among no bounds.
+    fn below(&mut self, n: usize) -> usize
+        ensures { 0 < n → result < n }
+    {
         let mut x = self.state;
         x ^= x >> 12;
-        x ^= x.wrapping_shl(25);
+        x ^= x << 25;
         x ^= x >> 27;
         self.state = x;
         let drawn = x.wrapping_mul(0x2545_F491_4F6C_DD1D) >> 33;
@@ -76,9 +89,10 @@ impl Draft {
         if i >= EVENTS || j >= EVENTS || i == j {
             return Ok(());
         }
-        let apart = (j as i64).wrapping_sub(i as i64).wrapping_mul(10);
-        let out = apart.wrapping_add((self.below(1000) & 1023) as i64);
-        let back = (self.below(1000) & 1023) as i64;
+        // `as`: events are below 128, and what is drawn below 1000
+        let apart = (j as i64 - i as i64) * 10;
+        let out = apart + self.below(1000) as i64;
+        let back = self.below(1000) as i64 - apart;
         self.demands.push(Demand {
             from: i,
             to: j,
@@ -87,26 +101,26 @@ impl Draft {
         self.demands.push(Demand {
             from: j,
             to: i,
-            bound: back.wrapping_sub(apart),
+            bound: back,
         })?;
         Ok(())
     }
 
     fn chain(&mut self) -> Result<(), AllocError> {
         for i in 0..EVENTS {
-            self.link(i, i.wrapping_add(1))?;
+            self.link(i, i + 1)?;
         }
         Ok(())
     }
 
     fn diamonds(&mut self) -> Result<(), AllocError> {
         for k in 0..EVENTS / 3 {
-            let first = k.wrapping_mul(3);
-            let last = first.wrapping_add(3);
-            self.link(first, first.wrapping_add(1))?;
-            self.link(first, first.wrapping_add(2))?;
-            self.link(first.wrapping_add(1), last)?;
-            self.link(first.wrapping_add(2), last)?;
+            let first = 3 * k;
+            let last = first + 3;
+            self.link(first, first + 1)?;
+            self.link(first, first + 2)?;
+            self.link(first + 1, last)?;
+            self.link(first + 2, last)?;
         }
         Ok(())
     }
@@ -115,7 +129,7 @@ impl Draft {
     fn popular(&mut self) -> usize {
         let bounds = self.demands.len();
         let at = self.below(bounds);
-        start_of(&self.demands, at)
+        self.demands.get(at).map_or(0, |demand| demand.from)
     }
 
     fn scale_free(&mut self) -> Result<(), AllocError> {
@@ -130,11 +144,12 @@ impl Draft {
         Ok(())
     }
 
+    // Not one function with `jobs_alone`: here event 0 is the start, bound to each step, and steps count from 1.
     fn job_shop(&mut self) -> Result<(), AllocError> {
         for step in 1..EVENTS {
             self.link(0, step)?;
             if step % 8 != 0 {
-                self.link(step, step.wrapping_add(1))?;
+                self.link(step, step + 1)?;
             }
         }
         for machine in 1..9 {
@@ -144,13 +159,13 @@ impl Draft {
     }
 
     // A machine takes its step of each job in turn, every fifth job next.
-    fn machine(&mut self, machine: usize) -> Result<(), AllocError> {
-        let mut job = machine;
-        for _ in 0..15 {
-            let next = job.wrapping_add(5) % 16;
-            let here = (job % 16).wrapping_mul(8).wrapping_add(machine);
-            self.link(here, next.wrapping_mul(8).wrapping_add(machine))?;
-            job = next;
+    fn machine(&mut self, machine: usize) -> Result<(), AllocError>
+        requires { machine < 16 }
+    {
+        for turn in 0..15 {
+            let job = (machine + 5 * turn) % 16;
+            let next = (job + 5) % 16;
+            self.link(8 * job + machine, 8 * next + machine)?;
         }
         Ok(())
     }
@@ -158,7 +173,7 @@ impl Draft {
     fn jobs_alone(&mut self) -> Result<(), AllocError> {
         for step in 0..EVENTS {
             if step % 8 != 7 {
-                self.link(step, step.wrapping_add(1))?;
+                self.link(step, step + 1)?;
             }
         }
         for machine in 0..8 {
@@ -182,6 +197,7 @@ pub fn drafted(heap: Global, shape: Shape) -> Result<Vec<Demand>, AllocError> {
         demands: Vec::new(heap),
         state: 20_240,
     };
+    // one match: a method of the shape would hold the same arms
     match shape {
         Shape::Chain => draft.chain()?,
         Shape::Diamonds => draft.diamonds()?,
@@ -190,6 +206,7 @@ pub fn drafted(heap: Global, shape: Shape) -> Result<Vec<Demand>, AllocError> {
         Shape::JobsAlone => draft.jobs_alone()?,
         Shape::Dense => draft.dense()?,
     }
-    let Draft { demands, state: _ } = draft;
+    // by a pattern: so a field is moved out of a value
+    let Draft { demands, .. } = draft;
     Ok(demands)
 }

@@ -5,15 +5,13 @@ ghost use Rattle.poychare.specs.Handed.{Handed};
 
 use listing::listing::listing;
 
-// What the host gets where its place is too short.
+// What a host in C gets where its place is too short: there is no Result across that boundary.
 const TOO_SHORT: i64 = -5;
 
 // Lists the sheet at the front of the place, and answers the length of the listing or -5.
 pub fn poychare_listing(sheet: &[u8], place: &mut [u8]) -> i64
     ensures { Handed sheet.now place.old place.new result }
 {
-    match listing(sheet, place) {
-        Ok(length) => length as i64,
-        Err(_) => TOO_SHORT,
-    }
+    // `as`: C takes one signed number, and the length fits it
+    listing(sheet, place).map_or(TOO_SHORT, |length| length as i64)
 }

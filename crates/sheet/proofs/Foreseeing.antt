@@ -49,6 +49,13 @@ seen_as f e p = record { answers = f.answers ∙ e; leaves = f.leaves ∙ p }
 pub seen_call : (A : Arithmetic) (cells : ℕ) (s : State) {r : Result (Unit {0}) Reason} {n : ℕ} (a b : Asked) → a ≡ b → Foreseen (performed A cells b s) r n → Foreseen (performed A cells a s) r n
 seen_call A cells s {r = r} {n = n} a b e f = subst (λ x. Foreseen (performed A cells x s) r n) (sym e) f
 
+-- what the net's checks answer is what the definitions of a call answer
+pub begin_answer : (cells n : ℕ) (s : State) → (begun cells n s).answer ≡ may_begin cells n
+begin_answer cells n s = (begun_seen cells n s).answers
+
+pub require_answer : (A : Arithmetic) (i j : ℕ) (w : List ℤ) (s : State) (m : ℕ) → s.events ≡ m → (required A i j w s).answer ≡ may_require A m i j w
+require_answer A i j w s m p = (required_seen A i j w s).answers ∙ ap (λ n. may_require A n i j w) p
+
 pub begin_kept : (cells n : ℕ) (s : State) (why : Reason) (m : ℕ) → Err why ≡ may_begin cells n → s.events ≡ m → Foreseen (begun cells n s) (Err why) m
 begin_kept cells n s why m e p = seen_as (begun_seen cells n s) (sym e) (ap (λ r. left_by r n s.events) (sym e) ∙ p)
 

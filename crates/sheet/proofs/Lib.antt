@@ -1,8 +1,8 @@
-mod Bodies
 mod Nexts
 mod Runs
 mod Requests
 mod Foreseeing
+mod Counts
 mod Places
 mod OrderWritten
 mod SheetWritten

@@ -1,56 +1,45 @@
 -- The ordering laid down byte by byte.
-use Rattle.std.proofs.Common.{◌≡◌, ℕ, zero, suc, ◌+◌, ◌-◌, ◌/◌, ◌%◌, ◌<◌, ◌≤◌, ◌&&◌, ltb, leb, List, [], ◌∷◌, ◌++◌, length, get_or, take, drop, set, Some, None, Ok, sym, ap, ◌∙◌, subst, add-one, arith, drop-cons}
+use Rattle.std.proofs.Common.{◌≡◌, ℕ, zero, suc, ◌+◌, ◌-◌, ◌<◌, ◌≤◌, ◌&&◌, ltb, leb, List, [], ◌∷◌, ◌++◌, length, get_or, take, drop, set, Some, None, Ok, sym, ap, ◌∙◌, add_comm, arith}
+use borrow.Rule.Slice.PartMut.{put_mid}
 use Rattle.std.proofs.lemmas.Bool.{cond-true, and_from, lt-ltb, le-leb}
-use Rattle.std.proofs.lemmas.List.{append_assoc, length-append, length-take, take_all, drop-drop, take_more, set-append_right, take-append-drop}
+use Rattle.std.proofs.lemmas.List.{append_assoc, append-nil, length-take, length-drop, take_all, drop_all, drop-drop, drop_more, take_more, set-append_right}
 use Rattle.order.specs.declared.event_order.EventOrder.{EventOrder}
 use Rattle.order.specs.Orderings.{events_of, event_of_rank, arranged}
 use Rattle.order.proofs.Orders.{events_count, events_within, events_differ}
 use Rattle.order.proofs.Faults.{Sound as SoundUpto, sound_starts, sound_more, sound_ends, arranged_by}
-use Rattle.sheet.specs.Written.{ordering_record}
+use Rattle.sheet.specs.Written.{length_bytes, ordering_record}
 
-ranked : (o : EventOrder) (rank : ℕ) → rank < o.count → event_of_rank (events_of o) (rank + 1) ≡ Some (get_or (events_of o) rank 0)
+-- the event of a rank, counted from 0
+pub ranked : (o : EventOrder) (rank : ℕ) → rank < o.count → event_of_rank (events_of o) (rank + 1) ≡ Some (get_or (events_of o) rank 0)
 ranked o rank h =
     let l = events_count o in
     let t = and_from (ltb 0 (rank + 1)) (leb (rank + 1) (length (events_of o))) (lt-ltb 0 (rank + 1) (omega arith)) (le-leb (rank + 1) (length (events_of o)) (omega arith)) in
     let e : rank + 1 - 1 ≡ rank = omega arith in
     cond-true (ltb 0 (rank + 1) && leb (rank + 1) (length (events_of o))) (Some (get_or (events_of o) (rank + 1 - 1) 0)) None t ∙ ap (λ k. Some (get_or (events_of o) k 0)) e
 
-pub event_there : (o : EventOrder) (rank e : ℕ) → rank < o.count → Some e ≡ event_of_rank (events_of o) (rank + 1) → (e ≡ get_or (events_of o) rank 0) × (e < o.count)
-event_there o rank e h p =
-    let r = ranked o rank h in
-    let q : e ≡ get_or (events_of o) rank 0 = cc in
-    (q, subst (λ x. x < o.count) (sym q) (events_within o rank h))
+-- one event more after those that stand at the front
+pub order_turn : (order zs xs : List ℕ) (r v : ℕ) → r < length order → r < length zs → xs ≡ take r order ++ drop r zs → v ≡ get_or order r 0 → set xs r v ≡ take (r + 1) order ++ drop (r + 1) zs
+order_turn order zs xs r v h k e p =
+    let l : length (take r order) ≡ r = simp length-take (omega arith) in
+    let z : r - r ≡ 0 = omega arith in
+    ap (λ ys. set ys r v) e
+    ∙ set-append_right (take r order) (drop r zs) r r v l (omega arith)
+    ∙ ap (λ m. take r order ++ set (drop r zs) m v) z
+    ∙ ap (λ ys. take r order ++ set ys 0 v) (drop_more zs r 0 k)
+    ∙ ap (λ x. take r order ++ (x ∷ drop (r + 1) zs)) p
+    ∙ sym (append_assoc (take r order) (get_or order r 0 ∷ []) (drop (r + 1) zs))
+    ∙ ap (λ ys. ys ++ drop (r + 1) zs) (sym (take_more order r 0 h))
 
-pub event_missing : (o : EventOrder) (rank : ℕ) → rank < o.count → None ≡ event_of_rank (events_of o) (rank + 1) → ⊥
-event_missing o rank h p = let r = ranked o rank h in let z : ◌≡◌ {A = ℕ} 0 1 = cc in omega arith
-
--- a byte after what stands at the front
-pub set_next : (ps zs xs : List ℕ) (k v : ℕ) → length ps ≡ k → k < length zs → xs ≡ ps ++ drop k zs → set xs k v ≡ (ps ++ (v ∷ [])) ++ drop (k + 1) zs
-set_next ps zs xs k v l h e =
-    let d = drop-cons zs k 0 h in
-    let z : k - k ≡ 0 = omega arith in
-    let s = set-append_right ps (drop k zs) k k v l (omega arith) in
-    ap (λ ys. set ys k v) e ∙ s ∙ ap (λ m. ps ++ set (drop k zs) m v) z ∙ ap (λ ys. ps ++ set ys 0 v) d ∙ ap (λ m. ps ++ (v ∷ drop m zs)) (sym (add-one k)) ∙ sym (append_assoc ps (v ∷ []) (drop (k + 1) zs))
-
-pub order_start : (E order : List ℕ) → E ≡ (take 3 E ++ take 0 order) ++ drop (0 + 3) E
-order_start E order = sym (append_assoc (take 3 E) [] (drop 3 E) ∙ take-append-drop 3 E)
-
-pub order_turn : (E order out : List ℕ) (rank v : ℕ) → rank < length order → rank + 3 < length E → out ≡ (take 3 E ++ take rank order) ++ drop (rank + 3) E → v ≡ get_or order rank 0 → set out (rank + 3) v ≡ (take 3 E ++ take (rank + 1) order) ++ drop (rank + 1 + 3) E
-order_turn E order out rank v h k e p =
-    let l : length (take 3 E ++ take rank order) ≡ rank + 3 = simp (length-append, length-take) (omega arith) in
-    let s = set_next (take 3 E ++ take rank order) E out (rank + 3) v l k e in
-    let t = take_more order rank 0 h in
-    let n : rank + 3 + 1 ≡ rank + 1 + 3 = omega arith in
-    s ∙ ap (λ xs. xs ++ drop (rank + 3 + 1) E) (append_assoc (take 3 E) (take rank order) (v ∷ [])) ∙ ap (λ x. (take 3 E ++ (take rank order ++ (x ∷ []))) ++ drop (rank + 3 + 1) E) p ∙ ap (λ xs. (take 3 E ++ xs) ++ drop (rank + 3 + 1) E) (sym t) ∙ ap (λ m. (take 3 E ++ take (rank + 1) order) ++ drop m E) n
-
-pub order_done : (E zs order out : List ℕ) (n rank : ℕ) → E ≡ ((n + 1) / 256) ∷ (((n + 1) % 256) ∷ (3 ∷ drop 3 zs)) → rank ≡ n → length order ≡ n → out ≡ (take 3 E ++ take rank order) ++ drop (rank + 3) E → out ≡ ordering_record order ++ drop (n + 3) zs
-order_done E zs order out n rank e r l h =
-    let H = λ (m : ℕ) (rest : List ℕ). ((m + 1) / 256) ∷ (((m + 1) % 256) ∷ (3 ∷ rest)) in
-    let flip : n + 3 ≡ 3 + n = omega arith in
-    let d : drop (n + 3) E ≡ drop (n + 3) zs = ap (λ m. drop m E) flip ∙ sym (drop-drop n 3 E) ∙ ap (λ ys. drop n (drop 3 ys)) e ∙ drop-drop n 3 zs ∙ ap (λ m. drop m zs) (sym flip) in
-    let t : take 3 E ≡ H n [] = ap (take 3) e in
-    let w : take n order ≡ order = take_all n order (omega arith) in
-    h ∙ ap (λ m. (take 3 E ++ take m order) ++ drop (m + 3) E) r ∙ ap (λ ys. (take 3 E ++ ys) ++ drop (n + 3) E) w ∙ ap (λ ys. (ys ++ order) ++ drop (n + 3) E) t ∙ ap (λ ys. H n order ++ ys) d ∙ ap (λ m. H m order ++ drop (n + 3) zs) (sym l)
+-- all events stand after the head
+pub order_done : (xs zs order events : List ℕ) (m n r : ℕ) → xs ≡ length_bytes (m + 1) ++ (3 ∷ drop 3 zs) → m ≡ n → length order ≡ n → n + 3 ≤ length zs → events ≡ take r order ++ drop r (take (m + 3 - 3) (drop 3 xs)) → length (take (m + 3 - 3) (drop 3 xs)) ≤ r → put_mid 3 (m + 3 - 3) xs events ≡ ordering_record order ++ drop (n + 3) zs
+order_done xs zs order events m n r e p l f h k =
+    let x : length xs ≡ length zs = ap length e ∙ simp length-drop (omega arith) in
+    let j : n ≤ r = (let a = simp (length-take, length-drop) at k in omega arith) in
+    let q : events ≡ order = h ∙ ap (λ ys. ys ++ drop r (take (m + 3 - 3) (drop 3 xs))) (take_all r order (omega arith)) ∙ ap (λ ys. order ++ ys) (drop_all r (take (m + 3 - 3) (drop 3 xs)) k) ∙ append-nil order in
+    let d : drop (n + 3) xs ≡ drop (n + 3) zs = ap (λ j. drop j xs) (add_comm n 3) ∙ sym (drop-drop n 3 xs) ∙ ap (λ ys. drop n (drop 3 ys)) e ∙ drop-drop n 3 zs ∙ ap (λ j. drop j zs) (add_comm 3 n) in
+    let t : take 3 xs ≡ length_bytes (length order + 1) ++ (3 ∷ []) = ap (take 3) e ∙ ap (λ j. length_bytes (j + 1) ++ (3 ∷ [])) (p ∙ sym l) in
+    let w : 3 + (m + 3 - 3) ≡ n + 3 = omega arith in
+    simp (q, t) (ap (λ ys. ordering_record order ++ ys) (drop-drop (m + 3 - 3) 3 xs ∙ ap (λ j. drop j xs) w ∙ d))
 
 -- an ordering is arranged as it is
 sound_upto : (o : EventOrder) (k : ℕ) → k ≤ o.count → SoundUpto o.count (events_of o) k

@@ -1,5 +1,5 @@
 -- What was written reads back to the same state.
-use Rattle.std.proofs.Common.{◌≡◌, ℕ, zero, suc, ◌+◌, ◌-◌, ◌*◌, ◌/◌, ◌%◌, ◌<◌, ◌≤◌, true, cond, not, ◌&&◌, ◌||◌, eqb, ltb, leb, ◌⊎◌, List, [], ◌∷◌, ◌++◌, length, get_or, take, drop, ℤ, Some, None, Ok, Err, Option, sym, refl, ap, ◌∙◌, subst, inl, inr, add-one, arith}
+use Rattle.std.proofs.Common.{◌≡◌, ℕ, zero, suc, ◌+◌, ◌-◌, ◌/◌, ◌%◌, ◌<◌, ◌≤◌, true, cond, not, ◌&&◌, ◌||◌, eqb, ltb, leb, ◌⊎◌, List, [], ◌∷◌, ◌++◌, length, get_or, take, drop, ℤ, Some, None, Ok, Err, Option, sym, refl, ap, ◌∙◌, subst, inl, inr, add-one, arith}
 use mathlib.Core.Path.{fun_ext}
 use Rattle.std.proofs.lemmas.Bool.{cases_lt, cases_eq, cond-true, cond-false, lt-ltb, le-ltb, le-leb, eq-eqb, ne_eqb, and_from, and_left, and_right, or_left, or_right, or_from, not_from_false}
 use Rattle.std.proofs.lemmas.List.{append-nil, append_assoc, length-append, drop_at, drop-drop, take_at, get_or-append_right}
@@ -8,13 +8,13 @@ use Rattle.order.specs.Orderings as orderings
 use Rattle.net.specs.declared.mode.Mode.TheVariants.{Open}
 use Rattle.net.specs.Limits.{most_events, cells_needed, most_size}
 use Rattle.net.specs.State.{State, need, accepted, fresh, rebound, reordered, with_bound, lesser, begun, required, arranged, ordered_by, Sound}
-use Rattle.sheet.specs.Records.{Coding, bound, ordering, begin, require, arrange, said, placed, asked}
+use Rattle.sheet.specs.Records.{Coding, length_at, after_record, bound, ordering, begin, require, arrange, said, placed, asked}
 use Rattle.sheet.specs.Sheets.{found, next_at, entry, entries_from, entries_of, after_call, located, entered, run, concluded}
 use Rattle.sheet.specs.Codes.{Codes, Coded}
-use Rattle.sheet.specs.Written.{length_bytes, events_record, bound_record, ordering_record, pair_record, row_records, all_records, written, restored}
+use Rattle.sheet.specs.Written.{joined, length_bytes, events_record, bound_record, ordering_record, pair_record, row_records, all_records, written, restored}
 use Rattle.sheet.specs.RoundTrips.{ReadsBack}
 use Rattle.sheet.proofs.Nexts.{at_found, at_end}
-use Rattle.sheet.proofs.Places.{row_records_more, row_records_none, all_records_more, all_records_none}
+use Rattle.sheet.proofs.Places.{joined_more}
 use Rattle.sheet.proofs.Runs.{goes, ends, versioned}
 
 -- a record stands where its length is written
@@ -30,10 +30,9 @@ record_there W pre body rest m e l =
     let T = (m / 256) ∷ ((m % 256) ∷ (body ++ rest)) in
     let a : m / 256 ≡ get_or W at 0 = sym (ap (λ xs. get_or xs at 0) w ∙ get_or-append_right pre T at at 0 refl (omega arith) ∙ ap (λ k. get_or T k 0) z0) in
     let b : m % 256 ≡ get_or W (at + 1) 0 = sym (ap (λ xs. get_or xs (at + 1) 0) w ∙ get_or-append_right pre T at (at + 1) 0 refl (omega arith) ∙ ap (λ k. get_or T k 0) z1) in
-    let v : m / 256 * 256 + m % 256 ≡ m = omega arith in
-    let f = at_found W at (m / 256) (m % 256) a b (omega arith) (omega arith) in
-    let k : at + 2 + m - (at + 2) ≡ m = omega arith in
-    sym f ∙ ap (λ x. found at (take (at + 2 + x - (at + 2)) (drop (at + 2) W)) (at + 2 + x)) v ∙ ap (λ x. found at (take x (drop (at + 2) W)) (at + 2 + m)) k ∙ ap (λ xs. found at (take m xs) (at + 2 + m)) d2 ∙ ap (λ xs. found at xs (at + 2 + m)) (take_at body rest m l)
+    let q : length_at W at ≡ m = omega arith in
+    let f = at_found W at (omega arith) (and_from (leb (at + 2) (length W)) (leb (after_record W at) (length W)) (le-leb _ _ (omega arith)) (le-leb _ _ (omega arith))) in
+    f ∙ ap (λ x. found at (take x (drop (at + 2) W)) (at + 2 + x)) q ∙ ap (λ xs. found at (take m xs) (at + 2 + m)) d2 ∙ ap (λ xs. found at xs (at + 2 + m)) (take_at body rest m l)
 
 -- the bounds from the events below i, and from i to those below j
 abbrev part_of : (ℕ → ℕ → Option (List ℤ)) → (i j : ℕ) → ℕ → ℕ → Option (List ℤ)
@@ -179,25 +178,17 @@ unbounded (Some w) h = absurd (h w refl)
 abbrev so_far : State → (i j : ℕ) → State
 so_far s i j = record { events = s.events; bounds = part_of s.bounds i j; order = orderings.upto s.events; mode = Open }
 
+-- the rest of the texts after the first m
+rest_of : (f : ℕ → List ℕ) (m n : ℕ) → m ≤ n → (r : List ℕ) × (joined f n ≡ joined f m ++ r)
+unfolding joined
+rest_of f m zero l = let e : m ≡ 0 = omega arith in ([], rw e refl)
+rest_of f m (suc n) l =
+    elim (cases_lt m (suc n)) [
+      | inl k ↦ let p = rest_of f m n (omega arith) in (p.0 ++ f n, ap (λ xs. xs ++ f n) p.1 ∙ append_assoc (joined f m) p.0 (f n))
+      | inr k ↦ let e : suc n ≡ m = omega arith in ([], ap (joined f) e ∙ sym (append-nil (joined f m)))
+    ]
+
 module _ (K : Coding) (s : State) (cells : ℕ) (h : Restorable K s) (W : List ℕ) where
-  row_split : (i m n : ℕ) → m ≤ n → (r : List ℕ) × (row_records K s.bounds i n ≡ row_records K s.bounds i m ++ r)
-  unfolding row_records
-  row_split i m zero l = let e : m ≡ 0 = omega arith in ([], rw e refl)
-  row_split i m (suc n) l =
-      elim (cases_lt m (suc n)) [
-        | inl k ↦ let p = row_split i m n (omega arith) in (p.0 ++ pair_record K i n (s.bounds i n), ap (λ xs. xs ++ pair_record K i n (s.bounds i n)) p.1 ∙ append_assoc (row_records K s.bounds i m) p.0 (pair_record K i n (s.bounds i n)))
-        | inr k ↦ let e : suc n ≡ m = omega arith in ([], ap (row_records K s.bounds i) e ∙ sym (append-nil (row_records K s.bounds i m)))
-      ]
-
-  all_split : (n m k : ℕ) → m ≤ k → (r : List ℕ) × (all_records K s.bounds n k ≡ all_records K s.bounds n m ++ r)
-  unfolding all_records
-  all_split n m zero l = let e : m ≡ 0 = omega arith in ([], rw e refl)
-  all_split n m (suc k) l =
-      elim (cases_lt m (suc k)) [
-        | inl q ↦ let p = all_split n m k (omega arith) in (p.0 ++ row_records K s.bounds k n, ap (λ xs. xs ++ row_records K s.bounds k n) p.1 ∙ append_assoc (all_records K s.bounds n m) p.0 (row_records K s.bounds k n))
-        | inr q ↦ let e : suc k ≡ m = omega arith in ([], ap (all_records K s.bounds n) e ∙ sym (append-nil (all_records K s.bounds n m)))
-      ]
-
   pair_step : (pre rest : List ℕ) (i j : ℕ) (b : Option (List ℤ)) → s.bounds i j ≡ b → W ≡ (pre ++ pair_record K i j b) ++ rest → 2 ≤ length pre → i < s.events → j < s.events → run K.arithmetic cells (entries_from K W (length pre)) (so_far s i j) ≡ run K.arithmetic cells (entries_from K W (length (pre ++ pair_record K i j b))) (so_far s i (j + 1))
   pair_step pre rest i j None e w l p q =
       ap (λ G. run K.arithmetic cells (entries_from K W (length pre)) (record { events = s.events; bounds = G; order = orderings.upto s.events; mode = Open })) (none_more s.bounds i j e)
@@ -220,13 +211,14 @@ module _ (K : Coding) (s : State) (cells : ℕ) (h : Restorable K s) (W : List �
       ∙ ap (λ x. run K.arithmetic cells (entries_from K W x) (so_far s i (j + 1))) k
 
   row_steps : (pre rest : List ℕ) (i : ℕ) → W ≡ (pre ++ row_records K s.bounds i s.events) ++ rest → 2 ≤ length pre → i < s.events → (j : ℕ) → j ≤ s.events → run K.arithmetic cells (entries_from K W (length pre)) (so_far s i 0) ≡ run K.arithmetic cells (entries_from K W (length (pre ++ row_records K s.bounds i j))) (so_far s i j)
-  row_steps pre rest i w l p zero q = ap (λ xs. run K.arithmetic cells (entries_from K W (length xs)) (so_far s i 0)) (sym (ap (λ xs. pre ++ xs) (row_records_none K s.bounds i) ∙ append-nil pre))
+  unfolding joined
+  row_steps pre rest i w l p zero q = ap (λ xs. run K.arithmetic cells (entries_from K W (length xs)) (so_far s i 0)) (sym (append-nil pre))
   row_steps pre rest i w l p (suc j) q =
       let F = s.bounds in
       let P = pair_record K i j (F i j) in
       let R = row_records K F i j in
-      let one : row_records K F i (suc j) ≡ R ++ P = ap (row_records K F i) (sym (add-one j)) ∙ row_records_more K F i j in
-      let sp = row_split i (suc j) s.events q in
+      let one : row_records K F i (suc j) ≡ R ++ P = ap (row_records K F i) (sym (add-one j)) ∙ joined_more (λ y. pair_record K i y (F i y)) j in
+      let sp = rest_of (λ y. pair_record K i y (F i y)) (suc j) s.events q in
       let v : W ≡ ((pre ++ R) ++ P) ++ (sp.0 ++ rest) =
       w ∙ ap (λ xs. (pre ++ xs) ++ rest) (sp.1 ∙ ap (λ xs. xs ++ sp.0) one) ∙ simp append_assoc in
       let k : 2 ≤ length (pre ++ R) = simp length-append (omega arith) in
@@ -240,14 +232,15 @@ module _ (K : Coding) (s : State) (cells : ℕ) (h : Restorable K s) (W : List �
   beyond x y (inr l) = unbounded (s.bounds x y) (λ w e. let k = (h.sound.within x y w e).1 in omega arith)
 
   all_steps : (pre rest : List ℕ) → W ≡ (pre ++ all_records K s.bounds s.events s.events) ++ rest → 2 ≤ length pre → (i : ℕ) → i ≤ s.events → run K.arithmetic cells (entries_from K W (length pre)) (so_far s 0 0) ≡ run K.arithmetic cells (entries_from K W (length (pre ++ all_records K s.bounds s.events i))) (so_far s i 0)
-  all_steps pre rest w l zero q = ap (λ xs. run K.arithmetic cells (entries_from K W (length xs)) (so_far s 0 0)) (sym (ap (λ xs. pre ++ xs) (all_records_none K s.bounds s.events) ∙ append-nil pre))
+  unfolding joined
+  all_steps pre rest w l zero q = ap (λ xs. run K.arithmetic cells (entries_from K W (length xs)) (so_far s 0 0)) (sym (append-nil pre))
   all_steps pre rest w l (suc i) q =
       let F = s.bounds in
       let n = s.events in
       let R = row_records K F i n in
       let B = all_records K F n i in
-      let one : all_records K F n (suc i) ≡ B ++ R = ap (all_records K F n) (sym (add-one i)) ∙ all_records_more K F n i in
-      let sp = all_split n (suc i) n q in
+      let one : all_records K F n (suc i) ≡ B ++ R = ap (all_records K F n) (sym (add-one i)) ∙ joined_more (λ x. row_records K F x n) i in
+      let sp = rest_of (λ x. row_records K F x n) (suc i) n q in
       let v : W ≡ ((pre ++ B) ++ R) ++ (sp.0 ++ rest) =
       w ∙ ap (λ xs. (pre ++ xs) ++ rest) (sp.1 ∙ ap (λ xs. xs ++ sp.0) one) ∙ simp append_assoc in
       let k : 2 ≤ length (pre ++ B) = simp length-append (omega arith) in
@@ -289,7 +282,7 @@ reads_back K s cells h fits t =
     let g2 = goes K W lw K.arithmetic cells (length pre) (so_far s n 0) (omega arith) (length pre) (length pre + 2 + (length s.order + 1)) (3 ∷ s.order) (restored s) f2 d2 in
     -- the end
     let lW : length W ≡ length pre + 2 + (length s.order + 1) = ap length w2 ∙ simp length-append (omega arith) in
-    let fin = ends K W lw K.arithmetic cells (length pre + 2 + (length s.order + 1)) (restored s) (omega arith) (sym (at_end W (length pre + 2 + (length s.order + 1)) (omega arith) (λ x. omega arith))) in
+    let fin = ends K W lw K.arithmetic cells (length pre + 2 + (length s.order + 1)) (restored s) (omega arith) (at_end W (length pre + 2 + (length s.order + 1)) (omega arith) (λ x. omega arith)) in
     ap (λ es. run K.arithmetic cells es t) (versioned K W refl) ∙ g0 ∙ g1 ∙ g2 ∙ fin
 
 pub restores : (K : Coding) (s : State) → Coded K s → 1 ≤ s.events → s.events ≤ most_events → orderings.arranged s.events s.order ≡ Ok s.order → ReadsBack K s (written K s)

@@ -1,17 +1,17 @@
 -- How reading goes on from an offset.
-use Rattle.std.proofs.Common.{◌≡◌, ℕ, zero, suc, ◌+◌, ◌<◌, ◌≤◌, eqb, ltb, List, [], ◌∷◌, length, get_or, Some, None, Ok, Err, Option, Result, sym, refl, ap, ◌∙◌, subst, inl, inr, arith}
-use Rattle.std.proofs.lemmas.Bool.{cases_Bool, ltb-true, eq-eqb, ne_eqb, cond-true, cond-false}
+use Rattle.std.proofs.Common.{◌≡◌, ℕ, zero, suc, ◌+◌, ◌<◌, ◌≤◌, eqb, ltb, List, [], ◌∷◌, length, get_or, Ok, Err, Result, sym, refl, ap, ◌∙◌, subst, inl, inr, arith}
+use Rattle.std.proofs.lemmas.Bool.{cases_Bool, eq-eqb, ne_eqb, cond-true, cond-false}
 use Rattle.kinds.specs.Arithmetic.{Arithmetic}
 use Rattle.net.specs.Refusals.{Reason}
 use Rattle.net.specs.State.{State}
 use Rattle.sheet.specs.Records.{Coding, Asked, begin, require, arrange, whole, body_at, after_record, asked, start}
 use Rattle.sheet.specs.Faults.{Fault, in_bytes, in_records}
-use Rattle.sheet.specs.Sheets.{Next, ended, found, faulty, next_at, Entry, wrong, entry, listed, entries, entries_from, entries_of, entered, then, run, asks, performed, located, after_answer, after_call, calls_in, performed_all, reading, concluded}
-use Rattle.sheet.specs.declared.reader.Record.{Record}
+use Rattle.sheet.specs.Sheets.{Next, ended, found, faulty, next_at, Entry, wrong, entry, listed, entries, entries_from, entries_of, entered, then, run, asks, performed, located, after_answer, after_call, calls_in, calls_of, performed_all}
 use Rattle.sheet.specs.Codes.{Full, EntryCodes, Amounts}
-use Rattle.sheet.specs.declared.fault.SheetFault.{SheetFault}
-use Rattle.sheet.specs.Outlines.{AsCalls, Ran, RanCoded, IfAmounts, Foreseen, Checked}
-use Rattle.sheet.specs.Told.{next_told, fault_of, answered}
+use Rattle.sheet.specs.Outlines.{Performed, Entered, Accepted}
+use Rattle.sheet.specs.Told.{entry_of, record_fault}
+use Rattle.sheet.specs.declared.fault.RecordFault.{RecordFault}
+use Rattle.sheet.specs.declared.reader.Record.{Record}
 use Rattle.sheet.proofs.Nexts.{at_end}
 use Rattle.sheet.proofs.Requests.{coded_entered}
 
@@ -24,18 +24,6 @@ found_on xs at o n b e =
         | inl w ↦ let p : found at (body_at xs at) (after_record xs at) ≡ found o b n = rw (t, w) at e in let q : after_record xs at ≡ n = cc in let z : at ≡ o = cc in (omega arith, sym z)
         | inr w ↦ let p : faulty (in_bytes 22 at) ≡ found o b n = rw (t, w) at e in let z : ◌≡◌ {A = ℕ} 0 1 = cc in absurd (omega arith)
       ]
-      | inr t ↦ elim (cases_Bool (eqb at start)) [
-        | inl w ↦ let p : faulty (in_records 24 at) ≡ found o b n = rw (t, w) at e in let z : ◌≡◌ {A = ℕ} 0 1 = cc in absurd (omega arith)
-        | inr w ↦ let p : ended ≡ found o b n = rw (t, w) at e in let z : ◌≡◌ {A = ℕ} 0 1 = cc in absurd (omega arith)
-      ]
-    ]
-
--- and it lies in the sheet
-pub found_before : (xs : List ℕ) (at o n : ℕ) (b : List ℕ) → next_at xs at ≡ found o b n → (at < n) × (at < length xs)
-unfolding next_at
-found_before xs at o n b e =
-    elim (cases_Bool (ltb at (length xs))) [
-      | inl t ↦ let l = found_on xs at o n b e in let k = ltb-true at (length xs) t in (omega arith, omega arith)
       | inr t ↦ elim (cases_Bool (eqb at start)) [
         | inl w ↦ let p : faulty (in_records 24 at) ≡ found o b n = rw (t, w) at e in let z : ◌≡◌ {A = ℕ} 0 1 = cc in absurd (omega arith)
         | inr w ↦ let p : ended ≡ found o b n = rw (t, w) at e in let z : ◌≡◌ {A = ℕ} 0 1 = cc in absurd (omega arith)
@@ -56,8 +44,8 @@ module _ (K : Coding) (sheet : List ℕ) (some : 1 ≤ length sheet) where
   enough : (m n at : ℕ) → length sheet < at + m → length sheet < at + n → entries K sheet m at ≡ entries K sheet n at
   unfolding entries
   enough zero zero at p q = refl
-  enough zero (suc n) at p q = ap (λ x. listed K x (entries K sheet n)) (at_end sheet at (omega arith) (λ e. omega arith))
-  enough (suc m) zero at p q = sym (ap (λ x. listed K x (entries K sheet m)) (at_end sheet at (omega arith) (λ e. omega arith)))
+  enough zero (suc n) at p q = sym (ap (λ x. listed K x (entries K sheet n)) (at_end sheet at (omega arith) (λ e. omega arith)))
+  enough (suc m) zero at p q = ap (λ x. listed K x (entries K sheet m)) (at_end sheet at (omega arith) (λ e. omega arith))
   enough (suc m) (suc n) at p q =
       listed_same K (next_at sheet at) (entries K sheet m) (entries K sheet n) (λ o k b e. let h = found_on sheet at o k b e in enough m n k (omega arith) (omega arith))
 
@@ -106,73 +94,72 @@ ended_late xs at e f =
       | inr t ↦ let w = eq-eqb at 1 f in let p : faulty (in_records 24 at) ≡ ended = rw (t, w) at e in let z : ◌≡◌ {A = ℕ} 0 1 = cc in omega arith
     ]
 
--- reading the sheet from s has come to an offset with t
-pub record Reads (K : Coding) (cells : ℕ) (sheet : List ℕ) (s : State) (at : ℕ) (t : State) : Type 0 where
+-- the record at an offset: its call answers as it is foreseen
+pub passes : (A : Arithmetic) (cells at : ℕ) (call : Asked) (e : Entry) (s : State) (P : State → Type 0) → asks at call ≡ e → Performed (performed A cells call s) (Ok tt) P → (after : State) × (entered A cells e s ≡ Ok after) × P after
+passes A cells at call e s P p f =
+    ((performed A cells call s).after, ap (λ x. entered A cells x s) (sym p) ∙ ap (λ a. located at (after_answer a (performed A cells call s).after)) f.answers, f.leaves)
+
+-- the bounds of a record and of those after it are amounts
+amounts_more : (K : Coding) (e : Entry) (more : List Entry) → EntryCodes K e → Amounts K.arithmetic (calls_in more) → Amounts K.arithmetic (calls_in (e ∷ more))
+amounts_more K (asks at (begin n)) more c h = h
+amounts_more K (asks at (require i j w)) more c h = (c.1, h)
+amounts_more K (asks at (arrange list)) more c h = h
+amounts_more K (wrong fault) more c h = h
+
+-- reading the sheet from s has come to an offset with t, of which this holds
+pub record Reads (K : Coding) (cells : ℕ) (sheet : List ℕ) (s : State) (at : ℕ) (P : State → Type 0) (t : State) : Type 0 where
   pub on : 1 ≤ at
   pub version : get_or sheet 0 0 ≡ 1
   pub runs : run K.arithmetic cells (entries_of K sheet) s ≡ run K.arithmetic cells (entries_from K sheet at) t
+  pub shown : P t
+  pub full : (at ≡ 1 → ⊥) → Full K t
+  -- if all bounds from the offset on are amounts, all of the sheet are
+  pub fits : Amounts K.arithmetic (calls_in (entries_from K sheet at)) → Amounts K.arithmetic (calls_of K sheet)
 
 module _ (K : Coding) (cells : ℕ) (sheet : List ℕ) (s : State) where
-  pub reads_start : (at : ℕ) → at ≡ 1 → get_or sheet 0 0 ≡ 1 → Reads K cells sheet s at s
-  reads_start at e v = record { on = omega arith; version = v; runs = ap (λ es. run K.arithmetic cells es s) (versioned K sheet v ∙ ap (entries_from K sheet) (sym e)) }
+  pub reads_start : (P : State → Type 0) → get_or sheet 0 0 ≡ 1 → P s → Reads K cells sheet s 1 P s
+  reads_start P v p = record {
+    on = omega arith;
+    version = v;
+    runs = ap (λ es. run K.arithmetic cells es s) (versioned K sheet v);
+    shown = p;
+    full = λ n. absurd (n refl);
+    fits = subst (λ es. Amounts K.arithmetic (calls_in es)) (sym (versioned K sheet v));
+  }
 
-  module _ (at : ℕ) (t : State) (h : Reads K cells sheet s at t) where
+  module _ (at : ℕ) (P : State → Type 0) (t : State) (h : Reads K cells sheet s at P t) where
     some : 1 ≤ length sheet
     some = nonempty sheet h.version
 
-    pub reads_on : (o n : ℕ) (b : List ℕ) (u : State) → next_at sheet at ≡ found o b n → entered K.arithmetic cells (entry o (asked K o b)) t ≡ Ok u → Reads K cells sheet s n u
-    reads_on o n b u e f =
-        let l = found_on sheet at o n b e in
-        record {
-          on = omega arith;
-          version = h.version;
-          runs = h.runs ∙ goes K sheet some K.arithmetic cells at t h.on o n b u e f;
-        }
+    -- the record found there is taken, or stops the reading
+    pub reads_on : (r : Record) (n cells' : ℕ) (Q : State → Type 0) → next_at sheet at ≡ found r.offset r.body.now n → cells' ≡ cells → EntryCodes K (entry_of K r) → Entered (entered K.arithmetic cells' (entry_of K r) t) r.offset (Ok tt) Q → (u : State) × Reads K cells sheet s n Q u
+    reads_on r n cells' Q e m c h' =
+        let l = found_on sheet at r.offset n r.body.now e in
+        let f = ap (λ x. entered K.arithmetic x (entry_of K r) t) (sym m) ∙ h'.1 in (
+          h'.0,
+          record {
+            on = omega arith;
+            version = h.version;
+            runs = h.runs ∙ goes K sheet some K.arithmetic cells at t h.on r.offset n r.body.now h'.0 e f;
+            shown = h'.2;
+            full = λ _. coded_entered K K.arithmetic cells r.offset t h'.0 r.body.now c f (λ k. h.full (λ j. k (l.1 ∙ j)));
+            fits = λ a. h.fits (subst (λ es. Amounts K.arithmetic (calls_in es)) (sym (step K sheet some at (found r.offset r.body.now n) h.on e)) (amounts_more K (entry_of K r) (entries_from K sheet n) c a));
+          },
+        )
 
-    pub reads_stop : (o n : ℕ) (b : List ℕ) (fault : Fault) → next_at sheet at ≡ found o b n → entered K.arithmetic cells (entry o (asked K o b)) t ≡ Err fault → run K.arithmetic cells (entries_of K sheet) s ≡ Err fault
-    reads_stop o n b fault e f = h.runs ∙ stops K sheet some K.arithmetic cells at t h.on o n b fault e f
+    pub reads_stop : (r : Record) (n cells' : ℕ) (fault : RecordFault) (Q : State → Type 0) → next_at sheet at ≡ found r.offset r.body.now n → cells' ≡ cells → Entered (entered K.arithmetic cells' (entry_of K r) t) r.offset (Err fault) Q → run K.arithmetic cells (entries_of K sheet) s ≡ Err (record_fault fault r.offset)
+    reads_stop r n cells' fault Q e m f = h.runs ∙ stops K sheet some K.arithmetic cells at t h.on r.offset n r.body.now (record_fault fault r.offset) e (ap (λ x. entered K.arithmetic x (entry_of K r) t) (sym m) ∙ f)
 
-    pub reads_end : next_at sheet at ≡ ended → run K.arithmetic cells (entries_of K sheet) s ≡ Ok t
-    reads_end e = h.runs ∙ ends K sheet some K.arithmetic cells at t h.on e
+    pub reads_end : next_at sheet at ≡ ended → Accepted K cells sheet s P t
+    reads_end e = record {
+      came = h.runs ∙ ends K sheet some K.arithmetic cells at t h.on e;
+      shown = h.shown;
+      full = h.full (ended_late sheet at e);
+      amounts = h.fits (subst (λ es. Amounts K.arithmetic (calls_in es)) (sym (step K sheet some at ended h.on e)) tt);
+    }
 
     pub reads_fault : (fault : Fault) → next_at sheet at ≡ faulty fault → run K.arithmetic cells (entries_of K sheet) s ≡ Err fault
     reads_fault fault e = h.runs ∙ faults K sheet some K.arithmetic cells at t h.on fault e
-
--- there are events, and every bound in force is named by its bytes, after a record that is found
-pub coded_on : (K : Coding) (cells : ℕ) (sheet : List ℕ) (at o n : ℕ) (b : List ℕ) (t u : State) → next_at sheet at ≡ found o b n → entered K.arithmetic cells (entry o (asked K o b)) t ≡ Ok u → EntryCodes K (entry o (asked K o b)) → ((at ≡ 1 → ⊥) → Full K t) → Full K u
-coded_on K cells sheet at o n b t u e f c h =
-    let l = found_on sheet at o n b e in
-    coded_entered K K.arithmetic cells o t u b c f (λ k. h (λ j. k (l.1 ∙ j)))
-
--- a record that is foreseen to pass
-pub passes : (A : Arithmetic) (cells at m : ℕ) (call : Asked) (e : Entry) (s : State) → asks at call ≡ e → Foreseen (performed A cells call s) (Ok tt) m → (after : State) × (entered A cells e s ≡ Ok after) × (after.events ≡ m)
-passes A cells at m call e s p f =
-    ((performed A cells call s).after, ap (λ x. entered A cells x s) (sym p) ∙ ap (λ a. located at (after_answer a (performed A cells call s).after)) f.answers, f.leaves)
-
--- what a reader told, at the sheet that it reads
-pub told_found : (r : Option Record) (x : Record) (at n : ℕ) (xs ys : List ℕ) → r ≡ Some x → next_told (Ok r) n ≡ next_at xs at → xs ≡ ys → next_at ys at ≡ found x.offset x.body.now n
-told_found r x at n xs ys e f p = ap (λ zs. next_at zs at) (sym p) ∙ sym f ∙ ap (λ q. next_told (Ok q) n) e
-
-pub told_ended : (r : Option Record) (at n : ℕ) (xs ys : List ℕ) → r ≡ None → next_told (Ok r) n ≡ next_at xs at → xs ≡ ys → next_at ys at ≡ ended
-told_ended r at n xs ys e f p = ap (λ zs. next_at zs at) (sym p) ∙ sym f ∙ ap (λ q. next_told (Ok q) n) e
-
-pub told_faulty : (fault : Fault) (at : ℕ) (xs ys : List ℕ) → faulty fault ≡ next_at xs at → xs ≡ ys → next_at ys at ≡ faulty fault
-told_faulty fault at xs ys f p = ap (λ zs. next_at zs at) (sym p) ∙ sym f
-
--- where a fault is answered
-pub ran_err : (came : Result State Fault) (t : State) (r : Result (Unit {0}) SheetFault) (y : SheetFault) (f : Fault) → r ≡ Err y → fault_of y ≡ f → came ≡ Err f → Ran came r t
-ran_err came t r y f e g h = subst (λ q. Ran came q t) (sym e) (h ∙ ap Err (sym g))
-
-pub none_err : (K : Coding) (t : State) (r : Result (Unit {0}) SheetFault) (y : SheetFault) → r ≡ Err y → RanCoded K r t
-none_err K t r y e = subst (λ q. RanCoded K q t) (sym e) tt
-
-pub checked_err : (came : Result State Fault) (r : Result (Unit {0}) SheetFault) (y : SheetFault) (f : Fault) → r ≡ Err y → fault_of y ≡ f → came ≡ Err f → Checked came r
-checked_err came r y f e g h = subst (λ q. Checked came q) (sym e) (h ∙ ap Err (sym g))
-
--- what a sheet that is known to be sound comes to
-pub concludes : (came : Result State Fault) (r : Result (Unit {0}) SheetFault) (s t after : State) → came ≡ Ok after → Ran came r t → reading (answered r) t ≡ concluded s came
-concludes came (Ok x) s t after e h = ap (concluded s) (sym h)
-concludes came (Err fault) s t after e h = let z : ◌≡◌ {A = ℕ} 0 1 = cc in absurd (omega arith)
 
 -- records that are all accepted are their calls, each accepted
 pub as_calls : (A : Arithmetic) (cells : ℕ) (es : List Entry) (s t : State) → run A cells es s ≡ Ok t → performed_all A cells (calls_in es) s ≡ Ok t
@@ -185,31 +172,3 @@ as_calls A cells (asks at call ∷ more) s t h =
     by_answer : (at : ℕ) (r : Result State Reason) (f : State → Result State Fault) (p : State → Result State Reason) (t : State) → ((u : State) → f u ≡ Ok t → p u ≡ Ok t) → then (located at r) f ≡ Ok t → then r p ≡ Ok t
     by_answer at (Ok u) f p t on k = on u k
     by_answer at (Err why) f p t on k = let z : ◌≡◌ {A = ℕ} 0 1 = cc in absurd (omega arith)
-
-pub counts : (A : Arithmetic) (cells : ℕ) (es : List Entry) (s t : State) (r : Result (Unit {0}) SheetFault) → Ran (run A cells es s) r t → AsCalls r (performed_all A cells (calls_in es) s) t
-counts A cells es s t (Ok x) h = as_calls A cells es s t h
-counts A cells es s t (Err fault) h = tt
-
--- the bounds of a record and of those after it are amounts
-amounts_more : (K : Coding) (e : Entry) (more : List Entry) → EntryCodes K e → Amounts K.arithmetic (calls_in more) → Amounts K.arithmetic (calls_in (e ∷ more))
-amounts_more K (asks at (begin n)) more c h = h
-amounts_more K (asks at (require i j w)) more c h = (c.1, h)
-amounts_more K (asks at (arrange list)) more c h = h
-amounts_more K (wrong fault) more c h = h
-
--- if all bounds from an offset on are amounts, all of the sheet are
-abbrev pub Fitting : Coding → List ℕ → ℕ → Type 0
-Fitting K sheet at = Amounts K.arithmetic (calls_in (entries_from K sheet at)) → Amounts K.arithmetic (calls_in (entries_of K sheet))
-
-pub fitting_start : (K : Coding) (sheet : List ℕ) (at : ℕ) → at ≡ 1 → get_or sheet 0 0 ≡ 1 → Fitting K sheet at
-fitting_start K sheet at e v h = subst (λ es. Amounts K.arithmetic (calls_in es)) (ap (entries_from K sheet) e ∙ sym (versioned K sheet v)) h
-
-module _ (K : Coding) (cells : ℕ) (sheet : List ℕ) (s : State) (at : ℕ) (t : State) (h : Reads K cells sheet s at t) where
-  pub fitting_on : (o n : ℕ) (b : List ℕ) → next_at sheet at ≡ found o b n → EntryCodes K (entry o (asked K o b)) → Fitting K sheet at → Fitting K sheet n
-  fitting_on o n b e c f g = f (subst (λ es. Amounts K.arithmetic (calls_in es)) (sym (step K sheet (nonempty sheet h.version) at (found o b n) h.on e)) (amounts_more K (entry o (asked K o b)) (entries_from K sheet n) c g))
-
-  pub fitting_end : next_at sheet at ≡ ended → Fitting K sheet at → Amounts K.arithmetic (calls_in (entries_of K sheet))
-  fitting_end e f = f (subst (λ es. Amounts K.arithmetic (calls_in es)) (sym (step K sheet (nonempty sheet h.version) at ended h.on e)) tt)
-
-pub no_amounts : (A : Arithmetic) (calls : List Asked) (r : Result (Unit {0}) SheetFault) (y : SheetFault) → r ≡ Err y → IfAmounts A r calls
-no_amounts A calls r y e = subst (λ q. IfAmounts A q calls) (sym e) tt

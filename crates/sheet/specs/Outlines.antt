@@ -10,18 +10,9 @@ use Rattle.sheet.specs.declared.fault.RecordFault.{RecordFault}
 use Rattle.sheet.specs.declared.fault.SheetFault.{SheetFault}
 use Rattle.sheet.specs.Records.{Coding, Asked}
 use Rattle.sheet.specs.Faults.{Fault}
+use Rattle.sheet.specs.Sheets.{entries_of, calls_of, run}
 use Rattle.sheet.specs.Codes.{Full, Amounts}
 use Rattle.sheet.specs.Told.{record_fault, fault_of}
-
--- the calls of a sheet came to this state, or stopped at this fault
-abbrev pub Ran : Result State Fault → Result (Unit {0}) SheetFault → State → Type 0
-Ran came (Ok x) after = came ≡ Ok after
-Ran came (Err fault) after = came ≡ Err (fault_of fault)
-
--- they left events, and no bound in force that its bytes do not name
-abbrev pub RanCoded : Coding → Result (Unit {0}) SheetFault → State → Type 0
-RanCoded K (Ok x) after = Full K after
-RanCoded K (Err fault) after = Unit {0}
 
 -- the bounds of a sheet that is accepted are amounts
 abbrev pub IfAmounts : Arithmetic → Result (Unit {0}) SheetFault → List Asked → Type 0
@@ -53,21 +44,28 @@ unless_lacking (Err why) = Err (by (lack why))
 abbrev pub may_arrange : (n : ℕ) → List ℕ → Result (Unit {0}) Reason
 may_arrange n list = unless_lacking (arranged n list)
 
--- the outcome of a call was foreseen: its answer, and the number of events after it
-pub record Foreseen (o : Outcome) (answer : Result (Unit {0}) Reason) (events : ℕ) : Type 0 where
+-- the outcome of a call is this answer, and a state of which this holds
+pub record Performed (o : Outcome) (answer : Result (Unit {0}) Reason) (P : State → Type 0) : Type 0 where
   pub answers : o.answer ≡ answer
-  pub leaves : o.after.events ≡ events
+  pub leaves : P o.after
 
--- the state after a record was foreseen by its number of events, or its fault was
-abbrev pub Passed : Result State Fault → Result (Unit {0}) (ℕ × RecordFault) → (events : ℕ) → Type 0
-Passed came (Ok x) events = (after : State) × (came ≡ Ok after) × (after.events ≡ events)
-Passed came (Err why) events = came ≡ Err (record_fault why.1 why.0)
+-- it was foreseen: its answer, and the number of events after it
+abbrev pub Foreseen : Outcome → Result (Unit {0}) Reason → ℕ → Type 0
+Foreseen o answer events = Performed o answer (λ s. s.events ≡ events)
 
-abbrev pub PassedRecord : ℕ → Result State Fault → Result (Unit {0}) RecordFault → (events : ℕ) → Type 0
-PassedRecord at came (Ok x) events = (after : State) × (came ≡ Ok after) × (after.events ≡ events)
-PassedRecord at came (Err fault) events = came ≡ Err (record_fault fault at)
+-- a record came to a state of which this holds, or stopped at this fault
+abbrev pub Entered : Result State Fault → ℕ → Result (Unit {0}) RecordFault → (State → Type 0) → Type 0
+Entered came at (Ok x) P = (after : State) × (came ≡ Ok after) × P after
+Entered came at (Err fault) P = came ≡ Err (record_fault fault at)
 
--- the fault of a sheet was foreseen, or that there is none
-abbrev pub Checked : Result State Fault → Result (Unit {0}) SheetFault → Type 0
-Checked came (Ok x) = (after : State) × (came ≡ Ok after)
-Checked came (Err fault) = came ≡ Err (fault_of fault)
+-- all records of a sheet came to this state: it has events and no bound in force that its bytes do not name, and the sheet's bounds are amounts
+pub record Accepted (K : Coding) (cells : ℕ) (sheet : List ℕ) (s : State) (P : State → Type 0) (after : State) : Type 0 where
+  pub came : run K.arithmetic cells (entries_of K sheet) s ≡ Ok after
+  pub shown : P after
+  pub full : Full K after
+  pub amounts : Amounts K.arithmetic (calls_of K sheet)
+
+-- all records of a sheet came to a state of which this holds, or stopped at this fault
+abbrev pub Taken : Coding → (cells : ℕ) → List ℕ → State → Result (Unit {0}) SheetFault → (State → Type 0) → Type 0
+Taken K cells sheet s (Ok x) P = (after : State) × Accepted K cells sheet s P after
+Taken K cells sheet s (Err fault) P = run K.arithmetic cells (entries_of K sheet) s ≡ Err (fault_of fault)

@@ -1,5 +1,6 @@
 -- A net as the bytes of a sheet.
-use Rattle.std.specs.Prelude.{ℕ, zero, suc, ◌+◌, ◌/◌, ◌%◌, cond, List, [], ◌∷◌, ◌++◌, length, drop, ℤ, Some, None, Ok, Err, Option, Result, ◌==◌, nat_le}
+use Rattle.std.specs.List.{range_with_len}
+use Rattle.std.specs.Prelude.{ℕ, sum_by, count_by, is_some, zero, suc, ◌+◌, ◌/◌, ◌%◌, cond, List, [], ◌∷◌, ◌++◌, length, drop, ℤ, Some, None, Ok, Err, Option, Result, ◌==◌, nat_le}
 use Rattle.net.specs.declared.mode.Mode.TheVariants.{Open}
 use Rattle.net.specs.Refusals.{Reason, by}
 use Rattle.net.specs.State.{State}
@@ -28,32 +29,51 @@ abbrev pub pair_length : Coding → Option (List ℤ) → ℕ
 pair_length K None = 0
 pair_length K (Some w) = K.width + 5
 
+-- the first m texts after each other, and the first m numbers together
+unfoldable pub joined : (ℕ → List ℕ) → ℕ → List ℕ
+joined f zero = []
+joined f (suc m) = joined f m ++ f m
+
+unfoldable pub summed : (ℕ → ℕ) → ℕ → ℕ
+summed f zero = 0
+summed f (suc m) = summed f m + f m
+
 module _ (K : Coding) (F : ℕ → ℕ → Option (List ℤ)) where
   -- the bounds from i to the events below m
-  unfoldable pub row_records : (i m : ℕ) → List ℕ
-  row_records i zero = []
-  row_records i (suc m) = row_records i m ++ pair_record K i m (F i m)
+  abbrev pub row_records : (i m : ℕ) → List ℕ
+  row_records i = joined (λ j. pair_record K i j (F i j))
 
-  unfoldable pub row_length : (i m : ℕ) → ℕ
-  row_length i zero = 0
-  row_length i (suc m) = row_length i m + pair_length K (F i m)
+  abbrev pub row_length : (i m : ℕ) → ℕ
+  row_length i = summed (λ j. pair_length K (F i j))
 
   -- the bounds from the events below m to the n events
-  unfoldable pub all_records : (n m : ℕ) → List ℕ
-  all_records n zero = []
-  all_records n (suc m) = all_records n m ++ row_records m n
+  abbrev pub all_records : (n m : ℕ) → List ℕ
+  all_records n = joined (λ i. row_records i n)
 
-  unfoldable pub all_length : (n m : ℕ) → ℕ
-  all_length n zero = 0
-  all_length n (suc m) = all_length n m + row_length m n
+  abbrev pub all_length : (n m : ℕ) → ℕ
+  all_length n = summed (λ i. row_length i n)
+
+-- how many bounds in force are from an event, and in all
+abbrev pub held_from : State → ℕ → ℕ
+held_from s i = count_by (λ j. is_some (s.bounds i j)) (range_with_len 0 s.events)
+
+abbrev pub held : State → ℕ
+held s = sum_by (held_from s) (range_with_len 0 s.events)
+
+-- the records of all bounds in force, and how many bytes those are
+abbrev pub bounds_records : Coding → State → List ℕ
+bounds_records K s = all_records K s.bounds s.events s.events
+
+abbrev pub bounds_length : Coding → State → ℕ
+bounds_length K s = all_length K s.bounds s.events s.events
 
 -- the version, the events, the bounds in force by from and then to, and the ordering
 abbrev pub written : Coding → State → List ℕ
-written K s = 1 ∷ (events_record K s.events ++ (all_records K s.bounds s.events s.events ++ ordering_record s.order))
+written K s = 1 ∷ (events_record K s.events ++ (bounds_records K s ++ ordering_record s.order))
 
 -- how many bytes those are
 abbrev pub sheet_length : Coding → State → ℕ
-sheet_length K s = 6 + all_length K s.bounds s.events s.events + (length s.order + 3)
+sheet_length K s = 6 + bounds_length K s + (length s.order + 3)
 
 -- what a write answers, and the place after it
 pub record Writing : Type 0 where

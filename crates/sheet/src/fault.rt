@@ -1,11 +1,11 @@
 // What can be wrong with a sheet.
 ghost use Rattle.std.specs.Prelude.{◌≡◌};
-ghost use Rattle.sheet.specs.Told.{fault_of};
+ghost use Rattle.sheet.specs.Told.{fault_of, layer_number};
 ghost use Rattle.sheet.specs.declared.fault.RecordFault.TheVariants.{Refused as Carried};
-ghost use Rattle.sheet.specs.declared.fault.SheetFault.TheVariants.{AtRecord as At};
 
 use net::refusal::Refusal;
 
+// No words of its own, as the fault below: programs print the number.
 #[derive(Clone, Copy, Debug, PartialEq, Eq)]
 pub enum RecordFault {
     // no tag, an unknown one, or a length wrong for it
@@ -28,6 +28,23 @@ pub enum SheetFault {
     AtRecord { offset: usize, fault: RecordFault },
 }
 
+// Where a fault is found.
+#[derive(Clone, Copy, Debug, PartialEq, Eq)]
+pub enum Layer {
+    Bytes = 1,
+    Records = 2,
+    Net = 3,
+}
+
+impl Layer {
+    pub fn number(self) -> u8
+        ensures { result ≡ layer_number self }
+    {
+        self as u8
+    }
+}
+
+// By hand: a derived `From` has no contract, and clauses name the fault.
 impl From<Refusal> for RecordFault {
     ghost from_gives = { λ why r. r ≡ Carried why };
 
@@ -36,16 +53,9 @@ impl From<Refusal> for RecordFault {
     }
 }
 
-impl From<(usize, RecordFault)> for SheetFault {
-    ghost from_gives = { λ pair r. r ≡ At pair.0 pair.1 };
-
-    fn from(pair: (usize, RecordFault)) -> SheetFault {
-        let (offset, fault) = pair;
-        SheetFault::AtRecord { offset, fault }
-    }
-}
-
 impl SheetFault {
+    // Variants that carry a value have no discriminants to cast; a refusal has its number from the net.
+    // As the guide for makers of sheets numbers them.
     pub fn number(self) -> u8
         ensures { result ≡ (fault_of self).number }
     {
@@ -61,20 +71,22 @@ impl SheetFault {
         }
     }
 
-    // Where it was found: 1 in the bytes, 2 in the records, 3 by the net.
-    pub fn layer(self) -> u8
-        ensures { result ≡ (fault_of self).layer }
+    pub fn layer(self) -> Layer
+        ensures { layer_number result ≡ (fault_of self).layer }
     {
         match self {
-            SheetFault::Version | SheetFault::Cut { .. } => 1,
+            SheetFault::Version | SheetFault::Cut { .. } => Layer::Bytes,
             SheetFault::AtRecord { fault, .. } => match fault {
-                RecordFault::Malformed | RecordFault::Misplaced | RecordFault::OtherKind => 2,
-                RecordFault::Refused(_) => 3,
+                RecordFault::Malformed | RecordFault::Misplaced | RecordFault::OtherKind => {
+                    Layer::Records
+                }
+                RecordFault::Refused(_) => Layer::Net,
             },
         }
     }
 
     // The offset of the record's first length byte.
+    // 0 where the version is wrong: every fault is told with an offset.
     pub fn offset(self) -> usize
         ensures { result ≡ (fault_of self).offset }
     {

@@ -4,6 +4,7 @@
 pub mod fault;
 pub mod form;
 pub mod outline;
+pub mod performing;
 pub mod reader;
 pub mod reading;
 pub mod writing;

@@ -1,74 +1,63 @@
 // What the acceptance of a record depends on, so that a sheet is checked without touching the net.
-ghost use Rattle.std.specs.Prelude.{◌≡◌, ℕ};
+ghost use Rattle.std.specs.Prelude.{◌≡◌, refl};
+ghost use Rattle.std.proofs.Common.{◌∙◌};
 ghost use Rattle.net.specs.Refusals.{answered};
 ghost use Rattle.net.specs.State.{State};
-ghost use Rattle.sheet.specs.Outlines.{may_begin, may_require, may_arrange, Foreseen};
+ghost use Rattle.sheet.specs.Outlines.{may_arrange, Foreseen};
 ghost use Rattle.sheet.specs.Sheets.{performed};
 ghost use Rattle.sheet.specs.Told.{asking};
 
 use super::form::Request;
+use super::performing::Performs;
 use kinds::kind::Kind;
-use net::net::laying::MOST_SIZE;
-use net::net::making::MOST_EVENTS;
+use net::net::laying::check_require;
+use net::net::making::check_begin;
 use net::refusal::Refusal;
 use order::event_order::EventOrder;
 
 // The events after the records so far, and the cells of the net's table.
 #[derive(Clone, Copy)]
 pub struct Outline {
+    // as the net tells it: 0 where it has not begun
     pub events: usize,
     pub cells: usize,
 }
 
-// What the net will answer to a request, and the outline after it.
-pub fn foresee<K: Kind>(outline: &mut Outline, request: Request<'_, K>) -> Result<(), Refusal>
-    ensures same { outline.new.cells ≡ outline.old.cells }
-    ensures foreseen { (s : State) → s.events ≡ outline.old.events → Foreseen (performed K.Kind.arithmetic outline.old.cells (asking K.Kind.amount request.entry) s) (answered result) outline.new.events }
-{
-    match request {
-        Request::Begin { n } => {
-            let n = usize::from(n);
-            may_begin(n, outline.cells)?;
-            outline.events = n;
-            Ok(())
+impl<K: Kind> Performs<K> for Outline {
+    ghost shows = { λ outline s. s.events ≡ outline.events };
+
+    ghost cells = { λ outline. outline.cells };
+
+    ghost keeps = { λ a b. b.cells ≡ a.cells };
+
+    fn perform(&mut self, request: Request<'_, K>) -> Result<(), Refusal>
+        ensures same { self.new.cells ≡ self.old.cells }
+        ensures foreseen { (s : State) → s.events ≡ self.old.events → Foreseen (performed K.Kind.arithmetic self.old.cells (asking K.Kind.amount request.entry) s) (answered result) self.new.events }
+    {
+        match request {
+            Request::Begin { n } => {
+                let n = usize::from(n);
+                check_begin(n, self.cells)?;
+                self.events = n;
+                Ok(())
+            }
+            Request::Require { from, to, bound } => {
+                check_require(self.events, usize::from(from), usize::from(to), bound)
+            }
+            Request::Arrange { events } => may_arrange(self.events, events),
         }
-        Request::Require { from, to, bound } => {
-            may_require(outline.events, usize::from(from), usize::from(to), bound)
-        }
-        Request::Arrange { events } => may_arrange(outline.events, events),
     }
+
+    ghost keeps_on = { λ a b c f g. g ∙ f };
+
+    ghost keeps_none = { λ a. refl };
 }
 
-fn may_begin(n: usize, cells: usize) -> Result<(), Refusal>
-    ensures { answered result ≡ may_begin cells n }
-{
-    if n < 1 || n > MOST_EVENTS {
-        return Err(Refusal::EventsOutOfRange);
-    }
-    if n * n > cells {
-        return Err(Refusal::TooFewCells);
-    }
-    Ok(())
-}
-
-fn may_require<K: Kind>(n: usize, from: usize, to: usize, bound: K) -> Result<(), Refusal>
-    ensures { answered result ≡ may_require K.Kind.arithmetic n from to (K.Kind.amount bound) }
-{
-    if from >= n || to >= n {
-        return Err(Refusal::NoSuchEvent);
-    }
-    if from == to {
-        return Err(Refusal::SameEvent);
-    }
-    if bound.size() > MOST_SIZE {
-        return Err(Refusal::TooLarge);
-    }
-    Ok(())
-}
-
+// The check is `from_list` itself: `arrange` of the net makes the same call, and keeps the ordering.
 fn may_arrange(n: usize, events: &[u8]) -> Result<(), Refusal>
     ensures { answered result ≡ may_arrange n events.now }
 {
+    // `?` makes what the list lacks a refusal; the ordering itself is not kept
     EventOrder::from_list(events, n)?;
     Ok(())
 }

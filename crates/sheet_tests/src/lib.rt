@@ -12,25 +12,10 @@ mod tests {
     use sheet::reading::read;
     use sheet::writing::write;
     use std::test::Fail;
-    use table::cell::Cell;
-
-    const EMPTY: Cell<Micros> = Cell {
-        bound: None,
-        worked: None,
-        via: None,
-        distance: None,
-        by: None,
-    };
-
-    const EMPTY_STRICT: Cell<StrictMicros> = Cell {
-        bound: None,
-        worked: None,
-        via: None,
-        distance: None,
-        by: None,
-    };
+    use table::grid::blank;
 
     // Three events: 0→1 100, 1→0 −40, 1→2 50, 2→1 −10, 0→2 200.
+    // In each test crate that reads it: the bytes stand beside what is expected of them.
     const CYCLE: [u8; 71] = [
         1, 0, 3, 1, 3, 1, 0, 11, 2, 0, 1, 0, 0, 0, 0, 0, 0, 0, 100, 0, 11, 2, 1, 0, 255, 255, 255,
         255, 255, 255, 255, 216, 0, 11, 2, 1, 2, 0, 0, 0, 0, 0, 0, 0, 50, 0, 11, 2, 2, 1, 255, 255,
@@ -38,42 +23,35 @@ mod tests {
     ];
 
     // The fault of a sheet over nine cells: its number, its layer and its offset.
+    // By numbers, since hosts are told these and the tests pin them.
     fn fault_of(sheet: &[u8]) -> Option<(u8, u8, usize)> {
-        let mut table = [EMPTY; 9];
+        let mut table = [blank::<Micros>(); 9];
         let mut net = Net::make(&mut table);
-        match read(&mut net, sheet) {
-            Ok(()) => None,
-            Err(fault) => Some((fault.number(), fault.layer(), fault.offset())),
-        }
+        read(&mut net, sheet).err().map(|fault| (
+            fault.number(),
+            fault.layer().number(),
+            fault.offset(),
+        ))
     }
 
     // Whether the bytes stand at that offset of the place.
     fn holds(place: &[u8], at: usize, bytes: &[u8]) -> bool {
-        if at > place.len() || bytes.len() > place.len() - at {
-            return false;
-        }
-        place[at..at + bytes.len()] == bytes[..]
-    }
-
-    // Whether the front of the place is accepted as a sheet.
-    fn reads_front(net: &mut Net<'_, Micros>, place: &[u8], length: usize) -> bool {
-        length <= place.len() && read(net, &place[..length]).is_ok()
+        place.get(at..).is_some_and(|rest| rest.starts_with(bytes))
     }
 
     #[test]
-    fn reads_a_cycle_of_three_events(rt: HostRuntime) -> Result<(), Fail> {
-        let mut table = [EMPTY; 9];
+    fn reads_a_cycle_of_three_events(rt: HostRuntime) {
+        let mut table = [blank(); 9];
         let mut net = Net::make(&mut table);
-        assert!(rt; read(&mut net, &CYCLE).is_ok());
+        assert_eq!(rt; read(&mut net, &CYCLE), Ok(()));
         assert_eq!(rt; net.events(), 3);
-        assert_eq!(rt; net.bound(0, 1)?.ok_or("in force")?.0, 100);
-        assert_eq!(rt; net.bound(1, 0)?.ok_or("in force")?.0, -40);
-        assert_eq!(rt; net.bound(1, 2)?.ok_or("in force")?.0, 50);
-        assert_eq!(rt; net.bound(2, 1)?.ok_or("in force")?.0, -10);
-        assert_eq!(rt; net.bound(0, 2)?.ok_or("in force")?.0, 200);
-        assert!(rt; net.bound(2, 0)?.is_none());
+        assert_eq!(rt; net.bound(0, 1), Ok(Some(Micros(100))));
+        assert_eq!(rt; net.bound(1, 0), Ok(Some(Micros(-40))));
+        assert_eq!(rt; net.bound(1, 2), Ok(Some(Micros(50))));
+        assert_eq!(rt; net.bound(2, 1), Ok(Some(Micros(-10))));
+        assert_eq!(rt; net.bound(0, 2), Ok(Some(Micros(200))));
+        assert_eq!(rt; net.bound(2, 0), Ok(None));
         assert_eq!(rt; net.event_at(3), Some(2));
-        Ok(())
     }
 
     #[test]
@@ -114,7 +92,7 @@ mod tests {
             fault_of(&[1, 0, 3, 1, 3, 1, 0, 4, 3, 0, 1, 0]),
             Some((15, 3, 6))
         );
-        let mut table = [EMPTY; 9];
+        let mut table = [blank::<Micros>(); 9];
         let mut net = Net::make(&mut table);
         let fault = RecordFault::Refused(Refusal::NamedTwice);
         assert_eq!(rt;
@@ -124,56 +102,57 @@ mod tests {
     }
 
     #[test]
-    fn leaves_the_net_as_it_was_when_it_refuses(rt: HostRuntime) -> Result<(), Fail> {
-        let mut table = [EMPTY; 9];
+    fn leaves_the_net_as_it_was_when_it_refuses(rt: HostRuntime) {
+        let mut table = [blank(); 9];
         let mut net = Net::make(&mut table);
-        assert!(rt; read(&mut net, &CYCLE).is_ok());
+        assert_eq!(rt; read(&mut net, &CYCLE), Ok(()));
         assert!(rt; read(&mut net, &[1, 0, 3, 1, 2, 1, 0, 3, 3, 1, 1]).is_err());
         assert_eq!(rt; net.events(), 3);
-        assert_eq!(rt; net.bound(2, 1)?.ok_or("in force")?.0, -10);
-        Ok(())
+        assert_eq!(rt; net.bound(2, 1), Ok(Some(Micros(-10))));
     }
 
     #[test]
     fn writes_what_reads_back(rt: HostRuntime) -> Result<(), Fail> {
-        let mut table = [EMPTY; 9];
+        let mut table = [blank::<Micros>(); 9];
         let mut net = Net::make(&mut table);
         let mut place = [7u8; 80];
         assert_eq!(rt; write(&net, &mut place), Err(Refusal::EventsOutOfRange));
-        assert!(rt; read(&mut net, &CYCLE).is_ok());
+        assert_eq!(rt; read(&mut net, &CYCLE), Ok(()));
         net.arrange(&[2, 0, 1])?;
         assert_eq!(rt; write(&net, &mut place[..76]), Err(Refusal::PlaceTooShort));
         assert_eq!(rt; place[0], 7);
         assert_eq!(rt; write(&net, &mut place), Ok(77));
         assert!(rt; holds(&place, 0, &CYCLE[..19]));
         assert!(rt; holds(&place, 71, &[0u8, 4, 3, 2, 0, 1, 7, 7, 7]));
-        let mut other_table = [EMPTY; 10];
+        let mut other_table = [blank(); 10];
         let mut other = Net::make(&mut other_table);
-        assert!(rt; reads_front(&mut other, &place, 77));
-        assert_eq!(rt; other.bound(1, 0)?.ok_or("in force")?.0, -40);
-        assert_eq!(rt; other.bound(0, 2)?.ok_or("in force")?.0, 200);
-        assert!(rt; other.bound(2, 0)?.is_none());
+        let written = place.get(..77).ok_or("as long as was told")?;
+        assert_eq!(rt; read(&mut other, written), Ok(()));
+        assert_eq!(rt; other.bound(1, 0), Ok(Some(Micros(-40))));
+        assert_eq!(rt; other.bound(0, 2), Ok(Some(Micros(200))));
+        assert_eq!(rt; other.bound(2, 0), Ok(None));
         assert_eq!(rt; other.event_at(1), Some(2));
         assert_eq!(rt; other.event_at(3), Some(1));
         Ok(())
     }
 
     #[test]
-    fn takes_strict_bounds_of_sixteen_bytes(rt: HostRuntime) -> Result<(), Fail> {
+    fn takes_strict_bounds_of_sixteen_bytes(rt: HostRuntime) {
         let sheet = [
             1, 0, 3, 1, 2, 2, 0, 19, 2, 0, 1, 0, 0, 0, 0, 0, 0, 0, 5, 255, 255, 255, 255, 255, 255,
             255, 255,
         ];
-        let mut table = [EMPTY_STRICT; 4];
+        let mut table = [blank(); 4];
         let mut net = Net::make(&mut table);
-        assert!(rt; read(&mut net, &sheet).is_ok());
-        let bound = net.bound(0, 1)?.ok_or("in force")?;
-        assert_eq!(rt; bound.number, 5);
-        assert_eq!(rt; bound.mark, -1);
+        assert_eq!(rt; read(&mut net, &sheet), Ok(()));
+        let bound = StrictMicros {
+            number: 5,
+            mark: -1,
+        };
+        assert_eq!(rt; net.bound(0, 1), Ok(Some(bound)));
         let mut place = [0u8; 32];
         assert_eq!(rt; write(&net, &mut place), Ok(32));
         assert!(rt; holds(&place, 0, &sheet));
         assert_eq!(rt; fault_of(&sheet), Some((25, 2, 1)));
-        Ok(())
     }
 }

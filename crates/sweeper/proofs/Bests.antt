@@ -110,6 +110,14 @@ module _ {K : Type 0} {A : Arithmetic} (L : Lawful A) (amount : K → List ℤ) 
     tries = λ j x y h o. elim (among_less ranks t j h) [ inl s ↦ b.tries j x y s o | inr s ↦ absurd (o (s ∙ e)) ];
   }
 
+-- the two parts that a rule answered
+pub both_parts : {X Y : Type 0} {r : X × Y} {a : X} {b : Y} → r ≡ (a, b) → (r.0 ≡ a) × (r.1 ≡ b)
+both_parts e = (ap (λ p. p.0) e, ap (λ p. p.1) e)
+
+-- the bound that it starts from, read off a cell
+pub best_worked : {K : Type 0} (A : Arithmetic) (amount : K → List ℤ) (S : ℕ → Type 0) (skip : ℕ) (f g : ℕ → Option K) (r : Least K) {a b : Cell K} → a ≡ b → Best A amount S skip a.worked f g r → Best A amount S skip b.worked f g r
+best_worked A amount S skip f g r e b = subst (λ (c : Cell _). Best A amount S skip c.worked f g r) e b
+
 -- the same at members named another way, and sums that agree there
 pub best_as : {K : Type 0} {A : Arithmetic} {amount : K → List ℤ} (S S' : ℕ → Type 0) (skip : ℕ) (d d' : Option K) (f g f' g' : ℕ → Option K) (r : Least K) → d' ≡ d → ((j : ℕ) → S j → S' j) → ((j : ℕ) → S' j → S j) →
     ((j : ℕ) → S j → f' j ≡ f j) → ((j : ℕ) → S j → g' j ≡ g j) → Best A amount S skip d f g r → Best A amount S' skip d' f' g' r

@@ -1,5 +1,5 @@
 -- The sweep.
-use Rattle.std.specs.Prelude.{◌≡◌, ℕ, ◌+◌, ◌^◌, ◌<◌, ◌≤◌, ◌≢◌, ◌⊎◌, List, ℤ, Some, None, Option}
+use Rattle.std.specs.Prelude.{◌≡◌, ℕ, ◌+◌, ◌^◌, ◌<◌, ◌≤◌, ◌≢◌, ◌⊎◌, List, length, ℤ, Some, None, Option, slice_index}
 use Rattle.kinds.specs.Arithmetic.{Arithmetic, AtMost, Lawful}
 use Rattle.elimination.specs.Held.{Held, nil, plus, le}
 use Rattle.elimination.specs.Walks as theory
@@ -14,6 +14,10 @@ pub record Best {K : Type 0} (A : Arithmetic) (amount : K → List ℤ) (S : ℕ
   pub parts : (j : ℕ) → r.by ≡ Some j → S j × (j ≢ skip) × Parts A amount r.sum (f j) (g j)
   pub keeps : (a : K) → d ≡ Some a → (b : K) × (r.sum ≡ Some b) × AtMost A (amount b) (amount a)
   pub tries : (j : ℕ) (b c : K) → S j → j ≢ skip → f j ≡ Some b → g j ≡ Some c → A.size (amount b) + A.size (amount c) ≤ 2 ^ 60 → (a : K) × (r.sum ≡ Some a) × AtMost A (amount a) (A.plus (amount b) (amount c))
+
+-- what a rule answers of each of the ranks: the parts f and g of the sum by it
+abbrev pub Tells : {K : Type 0} → (ℕ → Option K × Option K → Type 0) → List ℕ → (ℕ → Option K) → (ℕ → Option K) → Type 0
+Tells {K} rule ranks f g = (t : ℕ) (r : Option K × Option K) → t < length ranks → rule (slice_index ranks t) r → (r.0 ≡ f (slice_index ranks t)) × (r.1 ≡ g (slice_index ranks t))
 
 module _ {K : Type 0} (A : Arithmetic) (amount : K → List ℤ) where
   -- the least sum from i to k, and from k to i, over the ranks of S

@@ -1,12 +1,9 @@
 -- What a table holds at each pair after a write and after clearing.
-use Rattle.std.proofs.Common.{◌≡◌, ℕ, zero, suc, ◌+◌, ◌*◌, ◌/◌, ◌%◌, ◌<◌, ◌≤◌, List, [], ◌∷◌, length, get_or, set, sym, refl, ap, ◌∙◌, add-one, arith, get_or-set_other, get_or-set_same}
-use lib.Arith.{digits_div, digits_mod, digits_lt}
+use Rattle.std.proofs.Common.{◌≡◌, ℕ, zero, suc, ◌+◌, ◌*◌, ◌<◌, ◌≤◌, List, [], ◌∷◌, length, get_or, set, take, drop, ◌++◌, replicate, refl, ap, arith, get_or-set_other, get_or-set_same}
+use lib.Arith.{digits_lt}
+use Rattle.std.proofs.lemmas.Nat.{same_from_place}
 use Rattle.table.specs.declared.cell.Cell.{Cell}
 use Rattle.table.specs.Cells.{empty, at_cell, cleared}
-
--- two places are one only where their rows and columns are
-pub one_place : (n i j x y : ℕ) → j < n → y < n → i * n + j ≡ x * n + y → (i ≡ x) × (j ≡ y)
-one_place n i j x y p q e = (sym (digits_div i p) ∙ ap (λ z. z / n) e ∙ digits_div x q, sym (digits_mod i p) ∙ ap (λ z. z % n) e ∙ digits_mod x q)
 
 -- a pair's place lies in the table
 pub place_below : (n i j : ℕ) → i < n → j < n → i * n + j < n * n
@@ -16,7 +13,7 @@ pub put_same : {K : Type 0} (n i j : ℕ) (xs : List (Cell K)) (v : Cell K) → 
 put_same n i j xs v p q h = get_or-set_same xs (i * n + j) v empty (let l = place_below n i j p q in omega arith)
 
 pub put_other : {K : Type 0} (n i j x y : ℕ) (xs : List (Cell K)) (v : Cell K) → j < n → y < n → ((x ≡ i) × (y ≡ j) → ⊥) → at_cell n (set xs (i * n + j) v) x y ≡ at_cell n xs x y
-put_other n i j x y xs v p q h = get_or-set_other xs (i * n + j) (x * n + y) v empty (λ e. h (one_place n x y i j q p e))
+put_other n i j x y xs v p q h = get_or-set_other xs (i * n + j) (x * n + y) v empty (λ e. h (same_from_place x y i j n q p e))
 
 nothing : {K : Type 0} (k : ℕ) → get_or [] k empty ≡ empty {K = K}
 nothing k = refl
@@ -43,11 +40,11 @@ clear_length zero xs = refl
 clear_length (suc m) [] = refl
 clear_length (suc m) (x ∷ xs) = ap suc (clear_length m xs)
 
--- one more cell emptied
-pub clear_more : {K : Type 0} (m : ℕ) (xs : List (Cell K)) (v : Cell K) → m < length xs → v ≡ empty → set (cleared m xs) m v ≡ cleared (m + 1) xs
-clear_more m xs v h e = rw (add-one, e) (step m xs h)
+-- the first m cells each filled with one that holds nothing
+pub clear_filled : {K : Type 0} (m : ℕ) (xs ys : List (Cell K)) (v : Cell K) → v ≡ empty → ys ≡ replicate (length (take m xs)) v → ys ++ drop m xs ≡ cleared m xs
+clear_filled m xs ys v e f = rw (f, e) (filled m xs)
   where
-    step : {K : Type 0} (m : ℕ) (xs : List (Cell K)) → m < length xs → set (cleared m xs) m empty ≡ cleared (suc m) xs
-    step m [] h = absurd (omega arith)
-    step zero (x ∷ xs) h = refl
-    step (suc m) (x ∷ xs) h = ap (λ ys. empty ∷ ys) (step m xs (omega arith))
+    filled : {K : Type 0} (m : ℕ) (xs : List (Cell K)) → replicate (length (take m xs)) empty ++ drop m xs ≡ cleared m xs
+    filled zero xs = refl
+    filled (suc m) [] = refl
+    filled (suc m) (x ∷ xs) = ap (λ ys. empty ∷ ys) (filled m xs)

@@ -1,5 +1,7 @@
 // What the table holds of one pair of events. The fields lie in an order that leaves no gaps: 56 bytes for kind 1.
+// A rank stands beside its bound and not inside: most readers want the bound alone, and some bounds have no rank.
 #[derive(Clone, Copy)]
+#[derive_where(Default)]
 pub struct Cell<K> {
     // the bound in force
     pub bound: Option<K>,

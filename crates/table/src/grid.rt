@@ -1,6 +1,6 @@
-// Reading, writing and clearing the cells of a table of n rows of n cells.
-ghost use Rattle.std.specs.Prelude.{◌≡◌, ◌+◌, ◌*◌, ◌<◌, ◌≤◌, length, slice_set};
-ghost use Rattle.table.specs.Cells.{empty, at_cell, cleared};
+// Cells row by row in one slice: where each pair's lies, and how cells are emptied.
+ghost use Rattle.std.specs.Prelude.{◌≡◌, ◌+◌, ◌*◌, ◌<◌, ◌≤◌, length};
+ghost use Rattle.table.specs.Cells.{empty, cleared};
 
 use super::cell::Cell;
 
@@ -8,13 +8,7 @@ use super::cell::Cell;
 pub fn blank<K: Copy>() -> Cell<K>
     ensures { result ≡ empty }
 {
-    Cell {
-        bound: None,
-        worked: None,
-        via: None,
-        distance: None,
-        by: None,
-    }
+    Cell::default()
 }
 
 // Where the cell of the pair (i, j) lies.
@@ -28,34 +22,11 @@ pub fn place(i: usize, j: usize, n: usize) -> usize
     i * n + j
 }
 
-pub fn at<K: Copy>(cells: &[Cell<K>], n: usize, i: usize, j: usize) -> Cell<K>
-    requires few { n ≤ 128 }
-    requires fits { n * n ≤ length cells.now }
-    requires row { i < n }
-    requires column { j < n }
-    ensures { result ≡ at_cell n cells.now i j }
-{
-    let p = place(i, j, n);
-    cells[p]
-}
-
-pub fn put<K: Copy>(cells: &mut [Cell<K>], n: usize, i: usize, j: usize, cell: Cell<K>)
-    requires few { n ≤ 128 }
-    requires fits { n * n ≤ length cells.old }
-    requires row { i < n }
-    requires column { j < n }
-    ensures { cells.new ≡ slice_set cells.old (i * n + j) cell }
-{
-    let p = place(i, j, n);
-    cells[p] = cell;
-}
-
 // Empties the first m cells, and leaves the rest as they are.
+// m beside the slice: the clause says of the cells behind it too that they stay
 pub fn clear<K: Copy>(cells: &mut [Cell<K>], m: usize)
     requires fits { m ≤ length cells.old }
     ensures { cells.new ≡ cleared m cells.old }
 {
-    for k in 0..m {
-        cells[k] = blank();
-    }
+    cells[..m].fill(blank());
 }

@@ -1,12 +1,15 @@
-// Plans two bus cycles on a net, call by call: prints each call with its answer, and what the net tells then.
+// Plans two bus cycles, each on a net of its own, call by call: prints each call with its answer, and what the net
+// tells then.
 #![tactic(auto)]
 
-use history::call::{Asked, Call};
+mod shown;
+
+use history::call::Call;
 use history::performing::perform;
 use kinds::kind::Kind;
 use kinds::micros::Micros;
 use kinds::strict::StrictMicros;
-use net::refusal::Refusal;
+use shown::{ShownAnswer, ShownAsked, ShownCall, ShownClosing};
 use std::fmt::Display;
 use table::cell::Cell;
 use table::grid::blank;
@@ -17,105 +20,8 @@ const SHEET: [u8; 45] = [
     255, 255, 255, 216, 0, 11, 2, 1, 2, 0, 0, 0, 0, 0, 0, 0, 50,
 ];
 
-fn describe<K: Kind + Display>(rt: &impl Print, call: &Call<'_, K>) -> anyhow::Result<()> {
-    match call {
-        Call::Begin(n) => print!(rt; "  begin with {n} events")?,
-        Call::Read(sheet) => {
-            let bytes = sheet.len();
-            print!(rt; "  read a sheet of {bytes} bytes")?
-        }
-        Call::Require(i, j, bound) => print!(rt; "  from {i} to {j} at most {bound}")?,
-        Call::Withdraw(i, j) => print!(rt; "  withdraw the bound from {i} to {j}")?,
-        Call::Arrange(list) => {
-            print!(rt; "  arrange as")?;
-            for event in *list {
-                print!(rt; " {event}")?;
-            }
-        }
-        Call::Rank => print!(rt; "  rank")?,
-        Call::Close(bytes) => print!(rt; "  close with a place of {bytes} bytes")?,
-    }
-    Ok(())
-}
-
-fn show_answer(rt: &impl Print, answer: Option<u8>) -> anyhow::Result<()> {
-    match answer {
-        None => println!(rt; ": accepted")?,
-        Some(number) => println!(rt; ": refused by {number}")?,
-    }
-    Ok(())
-}
-
-fn show_end<K: Kind + Display>(rt: &impl Print, end: Option<K>) -> anyhow::Result<()> {
-    match end {
-        None => print!(rt; " -")?,
-        Some(bound) => print!(rt; " {bound}")?,
-    }
-    Ok(())
-}
-
-fn show_distance<K: Kind + Display>(
-    rt: &impl Print,
-    distance: Result<Option<K>, Refusal>,
-) -> anyhow::Result<()> {
-    print!(rt; " distance")?;
-    match distance {
-        Ok(distance) => show_end(rt, distance),
-        Err(_) => refused(rt),
-    }
-}
-
-fn show_window<K: Kind + Display>(
-    rt: &impl Print,
-    window: Result<(Option<K>, Option<K>), Refusal>,
-) -> anyhow::Result<()> {
-    print!(rt; ", window")?;
-    match window {
-        Ok((low, high)) => {
-            show_end(rt, low)?;
-            show_end(rt, high)
-        }
-        Err(_) => refused(rt),
-    }
-}
-
-fn refused(rt: &impl Print) -> anyhow::Result<()> {
-    print!(rt; " refused")?;
-    Ok(())
-}
-
-fn show_asked<K: Kind + Display>(
-    rt: &impl Print,
-    from: usize,
-    to: usize,
-    asked: Asked<K>,
-) -> anyhow::Result<()> {
-    let distance = asked.distance;
-    let window = asked.window;
-    print!(rt; "  from {from} to {to}:")?;
-    show_distance(rt, distance)?;
-    show_window(rt, window)?;
-    println!(rt; "")?;
-    Ok(())
-}
-
-fn show_closing(rt: &impl Print, closing: Result<(), Refusal>, place: &[u8]) -> anyhow::Result<()> {
-    print!(rt; "  close: ")?;
-    match closing {
-        Ok(()) => println!(rt; "closed")?,
-        Err(Refusal::Contradiction(events)) => {
-            print!(rt; "no run can keep the loop")?;
-            for event in place.iter().take(events) {
-                print!(rt; " {event}")?;
-            }
-            println!(rt; "")?;
-        }
-        Err(_) => println!(rt; "refused")?,
-    }
-    Ok(())
-}
-
 // Performs the calls on one net over the table, and tells all answers.
+// events go as plain numbers, as the net takes them
 fn plan<K: Kind + Display>(
     rt: &impl Print,
     table: &mut [Cell<K>],
@@ -124,15 +30,16 @@ fn plan<K: Kind + Display>(
     to: usize,
 ) -> anyhow::Result<()> {
     let mut place = [0u8; 4];
-    let mut answers = [None; 16];
+    // slots beside the calls, as history takes them
+    let mut answers = [Ok(()); 16];
     let report = perform(table, calls, &mut place, &mut answers, from, to);
-    for (call, answer) in calls.iter().zip(answers.iter()) {
-        describe(rt, call)?;
-        show_answer(rt, *answer)?;
+    for (call, answer) in calls.iter().zip(answers) {
+        println!(rt; "  {}: {}", ShownCall(call), ShownAnswer(answer))?;
     }
-    show_asked(rt, from, to, report.before)?;
-    show_closing(rt, report.closing, &place)?;
-    show_asked(rt, from, to, report.after)
+    println!(rt; "  from {from} to {to}: {}", ShownAsked(report.before))?;
+    println!(rt; "  close: {}", ShownClosing(report.closing, &place))?;
+    println!(rt; "  from {from} to {to}: {}", ShownAsked(report.after))?;
+    Ok(())
 }
 
 fn run(rt: &impl Print) -> anyhow::Result<()> {

@@ -1,33 +1,27 @@
 // Timing sheets by the trial's own reading and writing.
+ghost use Rattle.std.specs.Prelude.{◌+◌, ◌≤◌, length, IfSome};
+
 use super::amount::{Amount, Sample};
-use super::answers::number;
-use super::model::Model;
-use net::refusal::Refusal;
+use super::failure::Failure;
+use super::faults::{PlainFault, Slip};
+use super::model::{Model, event_byte};
 use std::alloc::{AllocError, Global};
 
-// A fault of a sheet: its number, its layer, and the offset of its record.
-#[derive(Clone, Copy, PartialEq, Eq)]
-pub struct PlainFault {
-    pub number: u8,
-    pub layer: u8,
-    pub offset: usize,
+// Kinds, tags and the version in numbers of the trial's own: a sheet is read without the names that are tried.
+fn kind_number<K: Sample>() -> u8 {
+    if K::MARKED { 2 } else { 1 }
 }
 
-fn amount_width<K: Sample>() -> usize {
-    if K::has_marks() { 16 } else { 8 }
+// A record with its length before it.
+fn push_record(out: &mut Vec<u8>, record: &[u8]) -> Result<(), AllocError> {
+    let length = (record.len() & 0xffff) as u16;
+    out.extend_from_slice(&length.to_be_bytes())?;
+    out.extend_from_slice(record)
 }
 
+// The eight bytes of a number that fits them.
 fn push_number(out: &mut Vec<u8>, number: i128) -> Result<(), AllocError> {
-    for byte in number.to_be_bytes().iter().skip(8) {
-        out.push(*byte)?;
-    }
-    Ok(())
-}
-
-fn push_length(out: &mut Vec<u8>, length: usize) -> Result<(), AllocError> {
-    out.push(((length >> 8) & 0xff) as u8)?;
-    out.push((length & 0xff) as u8)?;
-    Ok(())
+    out.extend_from_slice(&number.to_be_bytes()[8..])
 }
 
 fn push_bound<K: Sample>(
@@ -36,126 +30,105 @@ fn push_bound<K: Sample>(
     j: usize,
     bound: Amount,
 ) -> Result<(), AllocError> {
-    push_length(out, amount_width::<K>().wrapping_add(3))?;
-    out.push(2)?;
-    out.push((i & 0xff) as u8)?;
-    out.push((j & 0xff) as u8)?;
-    push_number(out, bound.number)?;
-    if K::has_marks() {
-        push_number(out, bound.mark)?;
+    let mut record = vec![in *out.allocator(); 2, event_byte(i), event_byte(j)]?;
+    push_number(&mut record, bound.number)?;
+    if K::MARKED {
+        push_number(&mut record, bound.mark)?;
     }
-    Ok(())
+    push_record(out, record.as_slice())
 }
 
 // The sheet of a model: its events, its bounds by from and then to, its ordering.
 pub fn sheet_of<K: Sample>(model: &Model) -> Result<Vec<u8>, AllocError> {
-    let n = model.events();
-    let mut out = Vec::new(model.heap);
-    out.push(1)?;
-    push_length(&mut out, 3)?;
-    out.push(1)?;
-    out.push((n & 0xff) as u8)?;
-    out.push(if K::has_marks() { 2 } else { 1 })?;
-    for i in 0..n {
-        for j in 0..n {
-            if let Some(bound) = model.bounds.at(i, j) {
-                push_bound::<K>(&mut out, i, j, bound)?;
+    let mut out = vec![in model.heap; 1]?;
+    push_record(
+        &mut out,
+        &[1, event_byte(model.events()), kind_number::<K>()],
+    )?;
+    for (i, row) in model.bounds.rows().iter().enumerate() {
+        for (j, entry) in row.iter().enumerate() {
+            if let Some(bound) = entry {
+                push_bound::<K>(&mut out, i, j, *bound)?;
             }
         }
     }
-    push_length(&mut out, n.wrapping_add(1))?;
-    out.push(3)?;
-    for event in model.order.iter() {
-        out.push(*event)?;
-    }
+    let mut ordering = vec![in model.heap; 3]?;
+    ordering.extend_from_slice(model.order.as_slice())?;
+    push_record(&mut out, ordering.as_slice())?;
     Ok(out)
 }
 
-fn byte_at(bytes: &[u8], at: usize) -> usize {
-    match bytes.get(at) {
-        Some(byte) => *byte as usize,
-        None => 0,
-    }
+#[derive(Clone, Copy)]
+enum Record<'s> {
+    Events {
+        count: usize,
+        kind: u8,
+    },
+    Bound {
+        from: usize,
+        to: usize,
+        bound: Amount,
+    },
+    Ordering(&'s [u8]),
 }
 
-// Eight bytes from `at`, in two's complement.
-fn number_at(bytes: &[u8], at: usize) -> i128 {
-    let mut value: i128 = if byte_at(bytes, at) >= 128 { -1 } else { 0 };
-    for k in 0..8 {
-        let byte = byte_at(bytes, at.wrapping_add(k)) as i128;
-        value = value.wrapping_mul(256).wrapping_add(byte);
-    }
-    value
-}
-
-fn in_records(number: u8, offset: usize) -> Result<(), PlainFault> {
-    Err(PlainFault {
-        number,
-        layer: 2,
-        offset,
+// Numbers of eight bytes in two's complement: one, and one for the mark of a kind with marks.
+fn bound_of<K: Sample>(bytes: &[u8]) -> Option<Amount> {
+    let (number, mark) = match bytes.as_chunks::<8>() {
+        ([number], []) if !K::MARKED => (*number, [0; 8]),
+        ([number, mark], []) if K::MARKED => (*number, *mark),
+        _ => return None,
+    };
+    Some(Amount {
+        number: i128::from(i64::from_be_bytes(number)),
+        mark: i128::from(i64::from_be_bytes(mark)),
     })
 }
 
-fn by_net(answer: Result<(), Refusal>, offset: usize) -> Result<(), PlainFault> {
-    match answer {
-        Ok(()) => Ok(()),
-        Err(refusal) => Err(PlainFault {
-            number: number(refusal),
-            layer: 3,
-            offset,
+// None where the tag is missing or unknown, or the length is wrong for it.
+fn record_of<K: Sample>(bytes: &[u8]) -> Option<Record<'_>> {
+    match bytes {
+        [1, count, kind] => Some(Record::Events {
+            count: usize::from(*count),
+            kind: *kind,
         }),
+        [2, from, to, bound @ ..] => Some(Record::Bound {
+            from: usize::from(*from),
+            to: usize::from(*to),
+            bound: bound_of::<K>(bound)?,
+        }),
+        [3, list @ ..] => Some(Record::Ordering(list)),
+        _ => None,
     }
 }
 
-fn length_is_right<K: Sample>(tag: usize, length: usize) -> bool {
-    match tag {
-        1 => length == 3,
-        2 => length == amount_width::<K>().wrapping_add(3),
-        3 => true,
-        _ => false,
+// What a record does to the model.
+fn apply<K: Sample>(model: &mut Model, bytes: &[u8], first: bool) -> Result<(), Failure<Slip>> {
+    let record = record_of::<K>(bytes).ok_or(Slip::Malformed)?;
+    if first != matches!(&record, Record::Events { .. }) {
+        return Err(Slip::Misplaced.into());
     }
-}
-
-// What the record at `offset` does to the model.
-fn perform<K: Sample>(
-    model: &mut Model,
-    bytes: &[u8],
-    offset: usize,
-    length: usize,
-) -> Result<Result<(), PlainFault>, AllocError> {
-    let at = offset.wrapping_add(2);
-    let tag = byte_at(bytes, at);
-    let first = byte_at(bytes, at.wrapping_add(1));
-    let second = byte_at(bytes, at.wrapping_add(2));
-    if length == 0 || !length_is_right::<K>(tag, length) {
-        return Ok(in_records(23, offset));
-    }
-    if (tag == 1) != (offset == 1) {
-        return Ok(in_records(24, offset));
-    }
-    if tag == 1 {
-        let own = if K::has_marks() { 2 } else { 1 };
-        if second != own {
-            return Ok(in_records(25, offset));
+    match record {
+        Record::Events { kind, .. } if kind != kind_number::<K>() => Err(Slip::OtherKind.into()),
+        Record::Events { count, .. } => model
+            .begin(count)
+            .map_err(|failure| failure.map(Slip::Refused)),
+        Record::Bound { from, to, bound } => {
+            model.require(from, to, bound).map_err(Slip::Refused)?;
+            Ok(())
         }
-        return Ok(by_net(model.begin(first)?, offset));
+        Record::Ordering(list) => model
+            .arrange(list)
+            .map_err(|failure| failure.map(Slip::Refused)),
     }
-    if tag == 2 {
-        let number = number_at(bytes, at.wrapping_add(3));
-        let mark = if K::has_marks() {
-            number_at(bytes, at.wrapping_add(11))
-        } else {
-            0
-        };
-        return Ok(by_net(
-            model.require(first, second, Amount { number, mark }),
-            offset,
-        ));
-    }
-    let list = bytes
-        .get(at.wrapping_add(1)..at.wrapping_add(length))
-        .unwrap_or(&[]);
-    Ok(by_net(model.arrange(list)?, offset))
+}
+
+// The bytes of the first record after its length, and what follows them.
+fn split_record(bytes: &[u8]) -> Option<(&[u8], &[u8])>
+    ensures { IfSome result (λ parts. length parts.1.now + 2 ≤ length bytes.now) }
+{
+    let (length, after) = bytes.split_first_chunk::<2>()?;
+    after.split_at_checked(usize::from(u16::from_be_bytes(*length)))
 }
 
 // The model that a sheet gives over so many cells, or the fault of its first faulty record.
@@ -163,42 +136,23 @@ pub fn read_plainly<K: Sample>(
     heap: Global,
     cells: usize,
     bytes: &[u8],
-) -> Result<Result<Model, PlainFault>, AllocError> {
-    let mut model = Model::made(heap, cells)?;
-    if byte_at(bytes, 0) != 1 {
-        return Ok(Err(PlainFault {
-            number: 21,
-            layer: 1,
-            offset: 0,
-        }));
-    }
-    let mut offset: usize = 1;
-    for _ in 0..bytes.len() {
-        if offset >= bytes.len() {
-            break;
-        }
-        let length = byte_at(bytes, offset)
-            .wrapping_mul(256)
-            .wrapping_add(byte_at(bytes, offset.wrapping_add(1)));
-        let end = offset.wrapping_add(2).wrapping_add(length);
-        if offset.wrapping_add(2) > bytes.len() || end > bytes.len() {
-            return Ok(Err(PlainFault {
-                number: 22,
-                layer: 1,
-                offset,
-            }));
-        }
-        if let Err(fault) = perform::<K>(&mut model, bytes, offset, length)? {
-            return Ok(Err(fault));
-        }
-        offset = end;
+) -> Result<Model, Failure<PlainFault>> {
+    let mut model = Model::new(heap, cells)?;
+    let [1, records @ ..] = bytes else {
+        return Err(Slip::Version.at(0).into());
+    };
+    let mut rest = records;
+    while !rest.is_empty() {
+        let offset = bytes.len() - rest.len();
+        let Some((record, after)) = split_record(rest) else {
+            return Err(Slip::Cut.at(offset).into());
+        };
+        let applied = apply::<K>(&mut model, record, offset == 1);
+        applied.map_err(|failure| failure.map(|slip| slip.at(offset)))?;
+        rest = after;
     }
     if model.events() == 0 {
-        return Ok(Err(PlainFault {
-            number: 24,
-            layer: 2,
-            offset: 1,
-        }));
+        return Err(Slip::Misplaced.at(1).into());
     }
-    Ok(Ok(model))
+    Ok(model)
 }

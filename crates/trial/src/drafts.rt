@@ -1,10 +1,14 @@
 // Random bounds of several families of nets, and random orderings.
-use super::chance::Chance;
-use std::alloc::{AllocError, Global};
+// Sums and differences of bounds wrap: some bounds are drawn beyond the limit, up to the ends of their type.
+ghost use Rattle.std.specs.Prelude.{◌<◌};
 
-const LIMIT: i64 = 1 << 40;
+use super::chance::Chance;
+use super::model::{LIMIT, events_below};
+use std::alloc::{AllocError, Global};
+use std::fmt;
 
 // A bound to lay down from one event to another.
+// Clone and Copy alone in this file: nothing compares or prints these values.
 #[derive(Clone, Copy)]
 pub struct Demand {
     pub from: usize,
@@ -35,44 +39,59 @@ pub const FAMILIES: [Family; 5] = [
     Family::Extreme,
 ];
 
-pub fn name_of(family: Family) -> &'static str {
-    match family {
-        Family::Dense => "dense nets",
-        Family::Sparse => "sparse nets",
-        Family::Parted => "parted nets",
-        Family::ZeroLoops => "chains of zero loops",
-        Family::Extreme => "nets of greatest bounds",
+impl fmt::Display for Family {
+    fn fmt<W: fmt::Write>(&self, f: &mut fmt::Formatter<W>) -> fmt::Result {
+        f.write_str(match self {
+            Family::Dense => "dense nets",
+            Family::Sparse => "sparse nets",
+            Family::Parted => "parted nets",
+            Family::ZeroLoops => "chains of zero loops",
+            Family::Extreme => "nets of greatest bounds",
+        })
     }
 }
 
-// A draft under way: each event has a time and a mark that bounds without slack keep exactly.
+// The time and the mark of an event, which bounds without slack keep exactly.
+#[derive(Clone, Copy, Default)]
+struct Moment {
+    time: i64,
+    mark: i64,
+}
+
+// A draft under way.
 #[derive(Drop)]
-struct Draft {
+struct Draft<'c> {
+    chance: &'c mut Chance,
     demands: Vec<Demand>,
-    times: Vec<i64>,
-    marks: Vec<i64>,
+    moments: Vec<Moment>,
     // whether some bounds ask for too much
     tight: bool,
 }
 
-fn entry_of(row: &Vec<i64>, event: usize) -> i64 {
-    row.get(event).copied().unwrap_or(0)
-}
-
-impl Draft {
-    fn begun(heap: Global, n: usize, chance: &mut Chance) -> Result<Draft, AllocError> {
-        let mut times = Vec::new(heap);
-        let mut marks = Vec::new(heap);
+impl<'c> Draft<'c> {
+    fn begun(heap: Global, n: usize, chance: &'c mut Chance) -> Result<Draft<'c>, AllocError> {
+        let mut moments = Vec::new(heap);
         for _ in 0..n {
-            times.push(chance.between(-1000, 1000))?;
-            marks.push(chance.between(-3, 3))?;
+            moments.push(Moment {
+                time: chance.between(-1000, 1000),
+                mark: chance.between(-3, 3),
+            })?;
         }
+        let tight = chance.in_hundred(35);
         Ok(Draft {
+            chance,
             demands: Vec::new(heap),
-            times,
-            marks,
-            tight: chance.in_hundred(35),
+            moments,
+            tight,
         })
+    }
+
+    fn moment(&self, event: usize) -> Moment {
+        self.moments.get(event).copied().unwrap_or_default()
+    }
+
+    fn some_event(&mut self) -> usize {
+        self.chance.below(self.moments.len())
     }
 
     fn demand(&mut self, from: usize, to: usize, number: i64, mark: i64) -> Result<(), AllocError> {
@@ -85,7 +104,7 @@ impl Draft {
         Ok(())
     }
 
-    // A bound that the times keep with some slack.
+    // A bound that the moments keep with some slack.
     fn with_slack(
         &mut self,
         from: usize,
@@ -93,152 +112,137 @@ impl Draft {
         slack: i64,
         mark: i64,
     ) -> Result<(), AllocError> {
-        let number = entry_of(&self.times, to).wrapping_sub(entry_of(&self.times, from));
-        let marked = entry_of(&self.marks, to).wrapping_sub(entry_of(&self.marks, from));
+        let start = self.moment(from);
+        let end = self.moment(to);
         self.demand(
             from,
             to,
-            number.wrapping_add(slack),
-            marked.wrapping_add(mark),
+            end.time.wrapping_sub(start.time).wrapping_add(slack),
+            end.mark.wrapping_sub(start.mark).wrapping_add(mark),
         )
     }
 
     // A bound with room to spare, or now and then with too little.
-    fn loose(&mut self, from: usize, to: usize, chance: &mut Chance) -> Result<(), AllocError> {
-        let slack = if self.tight && chance.in_hundred(6) {
-            chance.between(-80, 0)
+    fn loose(&mut self, from: usize, to: usize) -> Result<(), AllocError> {
+        let slack = if self.tight && self.chance.in_hundred(6) {
+            self.chance.between(-80, 0)
         } else {
-            chance.between(0, 300)
+            self.chance.between(0, 300)
         };
-        let mark = chance.between(-1, 1);
+        let mark = self.chance.between(-1, 1);
         self.with_slack(from, to, slack, mark)
     }
-}
 
-fn draft_dense(draft: &mut Draft, n: usize, chance: &mut Chance) -> Result<(), AllocError> {
-    for i in 0..n {
-        for j in 0..n {
-            if i != j && chance.in_hundred(70) {
-                draft.loose(i, j, chance)?;
+    // So many in a hundred of the pairs within each of so many parts.
+    fn pairs(&mut self, parts: usize, share: usize) -> Result<(), AllocError>
+        requires { 0 < parts }
+    {
+        let n = self.moments.len();
+        for i in 0..n {
+            for j in 0..n {
+                if i != j && i % parts == j % parts && self.chance.in_hundred(share) {
+                    self.loose(i, j)?;
+                }
             }
         }
+        Ok(())
     }
-    Ok(())
-}
 
-fn draft_sparse(draft: &mut Draft, n: usize, chance: &mut Chance) -> Result<(), AllocError> {
-    for _ in 0..n.wrapping_mul(2) {
-        let i = chance.below(n);
-        let j = chance.below(n);
-        draft.loose(i, j, chance)?;
+    fn sparse(&mut self) -> Result<(), AllocError> {
+        for _ in 0..self.moments.len().saturating_mul(2) {
+            let i = self.some_event();
+            let j = self.some_event();
+            self.loose(i, j)?;
+        }
+        Ok(())
     }
-    Ok(())
-}
 
-fn draft_parted(draft: &mut Draft, n: usize, chance: &mut Chance) -> Result<(), AllocError> {
-    for i in 0..n {
-        for j in 0..n {
-            if i != j && i % 3 == j % 3 && chance.in_hundred(50) {
-                draft.loose(i, j, chance)?;
+    // Chords keep the zero loops, miss by one, or leave a little.
+    fn chord(&mut self) -> Result<(), AllocError> {
+        let i = self.some_event();
+        let j = self.some_event();
+        let too_little = self.tight && self.chance.in_hundred(5);
+        if too_little && self.chance.in_hundred(50) {
+            return self.with_slack(i, j, -1, 0);
+        }
+        if too_little {
+            return self.with_slack(i, j, 0, -1);
+        }
+        let slack = self.chance.between(-2, 2).max(0);
+        let mark = self.chance.between(0, 1);
+        self.with_slack(i, j, slack, mark)
+    }
+
+    fn zero_loops(&mut self, row: &[u8]) -> Result<(), AllocError> {
+        for [here, next] in row.array_windows::<2>() {
+            let here = usize::from(*here);
+            let next = usize::from(*next);
+            self.with_slack(here, next, 0, 0)?;
+            self.with_slack(next, here, 0, 0)?;
+        }
+        for _ in row {
+            self.chord()?;
+        }
+        Ok(())
+    }
+
+    fn extreme_bound(&mut self) -> i64 {
+        match self.chance.below(8) {
+            0 => -LIMIT,
+            1 => self.chance.between(-2, 2),
+            2 => LIMIT - 1,
+            _ => LIMIT,
+        }
+    }
+
+    fn over_limit(&mut self) -> i64 {
+        match self.chance.below(4) {
+            0 => LIMIT + 1,
+            1 => -LIMIT - 1,
+            2 => i64::MIN,
+            _ => i64::MAX,
+        }
+    }
+
+    // A chain of greatest bounds out and exactly back; where it is tight, one link falls short by one.
+    fn extreme_chain(&mut self, row: &[u8]) -> Result<(), AllocError> {
+        let short = self.chance.below(row.len());
+        for (place, [here, next]) in row.array_windows::<2>().enumerate() {
+            let here = usize::from(*here);
+            let next = usize::from(*next);
+            let mark = self.extreme_bound();
+            let lack = i64::from(self.tight && place == short);
+            self.demand(here, next, LIMIT - lack, mark)?;
+            self.demand(next, here, -LIMIT, mark.wrapping_neg())?;
+        }
+        Ok(())
+    }
+
+    // Further bounds of greatest size lead back along the chain; some are over the limit.
+    fn extreme(&mut self, row: &[u8]) -> Result<(), AllocError> {
+        self.extreme_chain(row)?;
+        for _ in row {
+            let to = self.chance.below(row.len());
+            let beyond = self.chance.below(row.len().saturating_sub(to));
+            let i = event_of(row, to.saturating_add(beyond));
+            let j = event_of(row, to);
+            if self.chance.in_hundred(60) {
+                let number = self.extreme_bound().max(1 - LIMIT);
+                let mark = self.extreme_bound();
+                self.demand(i, j, number, mark)?;
+            } else {
+                let over = self.over_limit();
+                self.demand(i, j, over, 0)?;
+                self.demand(i, j, LIMIT, over)?;
             }
         }
-    }
-    Ok(())
-}
-
-// Chords keep the zero loops, miss by one, or leave a little.
-fn draft_chord(draft: &mut Draft, n: usize, chance: &mut Chance) -> Result<(), AllocError> {
-    let i = chance.below(n);
-    let j = chance.below(n);
-    let too_little = draft.tight && chance.in_hundred(5);
-    if too_little && chance.in_hundred(50) {
-        return draft.with_slack(i, j, -1, 0);
-    }
-    if too_little {
-        return draft.with_slack(i, j, 0, -1);
-    }
-    let slack = chance.between(-2, 2).max(0);
-    let mark = chance.between(0, 1);
-    draft.with_slack(i, j, slack, mark)
-}
-
-fn draft_zero_loops(
-    draft: &mut Draft,
-    row: &Vec<u8>,
-    chance: &mut Chance,
-) -> Result<(), AllocError> {
-    for (here, next) in row.iter().zip(row.iter().skip(1)) {
-        draft.with_slack(*here as usize, *next as usize, 0, 0)?;
-        draft.with_slack(*next as usize, *here as usize, 0, 0)?;
-    }
-    for _ in 0..row.len() {
-        draft_chord(draft, row.len(), chance)?;
-    }
-    Ok(())
-}
-
-fn extreme(chance: &mut Chance) -> i64 {
-    match chance.below(8) {
-        0 => LIMIT.wrapping_neg(),
-        1 => chance.between(-2, 2),
-        2 => LIMIT.wrapping_sub(1),
-        _ => LIMIT,
+        Ok(())
     }
 }
 
-fn over_limit(chance: &mut Chance) -> i64 {
-    match chance.below(4) {
-        0 => LIMIT.wrapping_add(1),
-        1 => LIMIT.wrapping_add(1).wrapping_neg(),
-        2 => i64::MIN,
-        _ => i64::MAX,
-    }
-}
-
-fn event_of(row: &Vec<u8>, place: usize) -> usize {
-    match row.get(place) {
-        Some(event) => *event as usize,
-        None => 0,
-    }
-}
-
-// A chain of greatest bounds out and exactly back; where it is tight, one link falls short by one.
-fn draft_extreme_chain(
-    draft: &mut Draft,
-    row: &Vec<u8>,
-    chance: &mut Chance,
-) -> Result<(), AllocError> {
-    let short = chance.below(row.len());
-    for place in 0..row.len().wrapping_sub(1) {
-        let here = event_of(row, place);
-        let next = event_of(row, place.wrapping_add(1));
-        let mark = extreme(chance);
-        let lack = if draft.tight && place == short { 1 } else { 0 };
-        draft.demand(here, next, LIMIT.wrapping_sub(lack), mark)?;
-        draft.demand(next, here, LIMIT.wrapping_neg(), mark.wrapping_neg())?;
-    }
-    Ok(())
-}
-
-// Further bounds of greatest size lead back along the chain; some are over the limit.
-fn draft_extreme(draft: &mut Draft, row: &Vec<u8>, chance: &mut Chance) -> Result<(), AllocError> {
-    draft_extreme_chain(draft, row, chance)?;
-    for _ in 0..row.len() {
-        let to = chance.below(row.len());
-        let from = to.wrapping_add(chance.below(row.len().wrapping_sub(to)));
-        let i = event_of(row, from);
-        let j = event_of(row, to);
-        if chance.in_hundred(60) {
-            let number = extreme(chance).max(LIMIT.wrapping_neg().wrapping_add(1));
-            let mark = extreme(chance);
-            draft.demand(i, j, number, mark)?;
-        } else {
-            let beyond = over_limit(chance);
-            draft.demand(i, j, beyond, 0)?;
-            draft.demand(i, j, LIMIT, beyond)?;
-        }
-    }
-    Ok(())
+// 0 outside the row, as `moment` has a default: no contract tells that what was drawn lies inside.
+fn event_of(row: &[u8], place: usize) -> usize {
+    row.get(place).map_or(0, |event| usize::from(*event))
 }
 
 // The bounds of a random net of n events.
@@ -249,38 +253,28 @@ pub fn drafted(
     chance: &mut Chance,
 ) -> Result<Vec<Demand>, AllocError> {
     let mut draft = Draft::begun(heap, n, chance)?;
-    let row = shuffled(heap, n, chance)?;
+    let row = shuffled(heap, n, draft.chance)?;
+    let row = row.as_slice();
+    // one match: a method of the family would hold the same arms
     match family {
-        Family::Dense => draft_dense(&mut draft, n, chance)?,
-        Family::Sparse => draft_sparse(&mut draft, n, chance)?,
-        Family::Parted => draft_parted(&mut draft, n, chance)?,
-        Family::ZeroLoops => draft_zero_loops(&mut draft, &row, chance)?,
-        Family::Extreme => draft_extreme(&mut draft, &row, chance)?,
+        Family::Dense => draft.pairs(1, 70)?,
+        Family::Sparse => draft.sparse()?,
+        Family::Parted => draft.pairs(3, 50)?,
+        Family::ZeroLoops => draft.zero_loops(row)?,
+        Family::Extreme => draft.extreme(row)?,
     }
-    let Draft {
-        demands,
-        times: _,
-        marks: _,
-        tight: _,
-    } = draft;
+    // by a pattern: so a field is moved out of a value
+    let Draft { demands, .. } = draft;
     Ok(demands)
-}
-
-fn exchange(row: &mut Vec<u8>, i: usize, j: usize) {
-    if i < row.len() && j < row.len() {
-        row.swap(i, j);
-    }
 }
 
 // The events in random order.
 pub fn shuffled(heap: Global, n: usize, chance: &mut Chance) -> Result<Vec<u8>, AllocError> {
-    let mut row = Vec::new(heap);
-    for event in 0..n {
-        row.push((event & 0xff) as u8)?;
-    }
-    for i in 0..n {
-        let other = chance.below(i.wrapping_add(1));
-        exchange(&mut row, i, other);
+    let mut row = events_below(heap, n)?;
+    let places = row.as_mut_slice();
+    for i in 0..places.len() {
+        let other = chance.below(i + 1);
+        places.swap(i, other);
     }
     Ok(row)
 }

@@ -1,102 +1,79 @@
-// Neighbours as a square of marks, with the ranking and the counts recomputed step by step.
+// Events with their neighbours, taken out one by one: the ranking, and the counts of an elimination step by step.
 use super::matrix::Matrix;
+use super::model::event_byte;
 use std::alloc::{AllocError, Global};
+use std::collections::{BTreeMap, BTreeSet};
 
-#[derive(Clone, Copy, PartialEq, Eq)]
+// The trial's own, apart from the net's Counts, which are held to it.
+#[derive(Clone, Copy, Default)]
 pub struct PlainCounts {
     pub width: u64,
     pub fill: u64,
     pub looks: u64,
 }
 
+// The events that are left, each with its neighbours.
 #[derive(Drop)]
-pub struct Graph {
-    size: usize,
-    joined: Vec<bool>,
-    gone: Vec<bool>,
+struct Graph {
+    left: BTreeMap<u8, BTreeSet<u8>>,
 }
 
 impl Graph {
     // Two events are neighbours where a bound is in force in either direction.
-    pub fn of_bounds(heap: Global, bounds: &Matrix) -> Result<Graph, AllocError> {
-        let size = bounds.size();
-        let mut graph = Graph {
-            size,
-            joined: vec![in heap; false; size.wrapping_mul(size)]?,
-            gone: vec![in heap; false; size]?,
-        };
-        for i in 0..size {
-            for j in 0..size {
-                if bounds.at(i, j).is_some() {
-                    graph.join(i, j);
+    fn of_bounds(heap: Global, bounds: &Matrix) -> Result<Graph, AllocError> {
+        let mut left = BTreeMap::new(heap);
+        for event in 0..bounds.size() {
+            left.insert(event_byte(event), BTreeSet::new(heap))?;
+        }
+        let mut graph = Graph { left };
+        for (i, row) in bounds.rows().iter().enumerate() {
+            for (j, bound) in row.iter().enumerate() {
+                if bound.is_some() {
+                    graph.join(event_byte(i), event_byte(j))?;
                 }
             }
         }
         Ok(graph)
     }
 
-    fn are_joined(&self, i: usize, j: usize) -> bool {
-        let place = i.wrapping_mul(self.size).wrapping_add(j);
-        self.joined.get(place).copied().unwrap_or(false)
-    }
-
-    fn mark(&mut self, i: usize, j: usize) {
-        let place = i.wrapping_mul(self.size).wrapping_add(j);
-        if let Some(entry) = self.joined.get_mut(place) {
-            *entry = true;
+    // Makes two events neighbours; tells whether they were none.
+    fn join(&mut self, i: u8, j: u8) -> Result<bool, AllocError> {
+        if let Some(neighbours) = self.left.get_mut(&i) {
+            neighbours.insert(j)?;
+        }
+        match self.left.get_mut(&j) {
+            Some(neighbours) => Ok(neighbours.insert(i)?),
+            None => Ok(false),
         }
     }
 
-    fn join(&mut self, i: usize, j: usize) {
-        self.mark(i, j);
-        self.mark(j, i);
-    }
-
-    fn is_gone(&self, event: usize) -> bool {
-        self.gone.get(event).copied().unwrap_or(true)
-    }
-
-    // The neighbours that are not gone.
-    fn left_beside(&self, heap: Global, event: usize) -> Result<Vec<usize>, AllocError> {
-        let mut beside = Vec::new(heap);
-        for other in 0..self.size {
-            if other != event && !self.is_gone(other) && self.are_joined(event, other) {
-                beside.push(other)?;
+    // Takes an event out and joins its neighbours with each other; tells how many it had, and how many pairs that makes.
+    fn take_out(&mut self, event: u8) -> Result<(u64, u64), AllocError> {
+        let Some(neighbours) = self.left.remove(&event) else {
+            return Ok((0, 0));
+        };
+        for other in neighbours.iter() {
+            if let Some(beside) = self.left.get_mut(other) {
+                beside.remove(&event);
             }
-        }
-        Ok(beside)
-    }
-
-    // Takes an event out and joins its neighbours with each other; tells how many pairs that makes.
-    fn take_out(&mut self, event: usize, beside: &Vec<usize>) -> u64 {
-        if let Some(entry) = self.gone.get_mut(event) {
-            *entry = true;
         }
         let mut made: u64 = 0;
-        for i in beside.iter() {
-            for j in beside.iter() {
-                if *i < *j && !self.are_joined(*i, *j) {
-                    self.join(*i, *j);
-                    made = made.wrapping_add(1);
+        for (k, i) in neighbours.iter().enumerate() {
+            for j in neighbours.iter().take(k) {
+                if self.join(*i, *j)? {
+                    made = made.saturating_add(1);
                 }
             }
         }
-        made
+        Ok((neighbours.len() as u64, made))
     }
 
-    fn fewest_left(&self, heap: Global) -> Result<Option<usize>, AllocError> {
-        let mut best = None;
-        let mut least = usize::MAX;
-        for event in 0..self.size {
-            if !self.is_gone(event) {
-                let degree = self.left_beside(heap, event)?.len();
-                if degree < least {
-                    least = degree;
-                    best = Some(event);
-                }
-            }
-        }
-        Ok(best)
+    // The first of the events with fewest neighbours left.
+    fn fewest_left(&self) -> Option<u8> {
+        self.left
+            .iter()
+            .min_by_key(|(_, neighbours)| neighbours.len())
+            .map(|(event, _)| *event)
     }
 }
 
@@ -105,10 +82,9 @@ pub fn ranking(heap: Global, bounds: &Matrix) -> Result<Vec<u8>, AllocError> {
     let mut graph = Graph::of_bounds(heap, bounds)?;
     let mut order = Vec::new(heap);
     for _ in 0..bounds.size() {
-        if let Some(event) = graph.fewest_left(heap)? {
-            order.push((event & 0xff) as u8)?;
-            let beside = graph.left_beside(heap, event)?;
-            let _ = graph.take_out(event, &beside);
+        if let Some(event) = graph.fewest_left() {
+            order.push(event)?;
+            graph.take_out(event)?;
         }
     }
     order.reverse();
@@ -116,22 +92,16 @@ pub fn ranking(heap: Global, bounds: &Matrix) -> Result<Vec<u8>, AllocError> {
 }
 
 // Width, fill and looks of an elimination in the ordering.
-pub fn recount(heap: Global, bounds: &Matrix, order: &Vec<u8>) -> Result<PlainCounts, AllocError> {
+pub fn recount(heap: Global, bounds: &Matrix, order: &[u8]) -> Result<PlainCounts, AllocError> {
     let mut graph = Graph::of_bounds(heap, bounds)?;
-    let mut counts = PlainCounts {
-        width: 0,
-        fill: 0,
-        looks: 0,
-    };
-    let mut lower = order.len() as u64;
-    for event in order.iter().rev() {
-        lower = lower.wrapping_sub(1);
-        let event = *event as usize;
-        let beside = graph.left_beside(heap, event)?;
-        let degree = beside.len() as u64;
+    let mut counts = PlainCounts::default();
+    for (lower, event) in order.iter().enumerate().rev() {
+        let (degree, made) = graph.take_out(*event)?;
         counts.width = counts.width.max(degree);
-        counts.looks = counts.looks.wrapping_add(lower.wrapping_mul(degree));
-        counts.fill = counts.fill.wrapping_add(graph.take_out(event, &beside));
+        counts.fill = counts.fill.saturating_add(made);
+        counts.looks = counts
+            .looks
+            .saturating_add(degree.saturating_mul(lower as u64));
     }
     Ok(counts)
 }

@@ -2,12 +2,15 @@
 #![tactic(auto)]
 
 mod amount;
-mod answers;
 mod bytes;
 mod chance;
+mod closed;
 mod compare;
 mod drafts;
+mod failure;
+mod faults;
 mod graph;
+mod held;
 mod limits;
 mod matrix;
 mod model;
@@ -18,18 +21,20 @@ mod tally;
 
 use amount::Sample;
 use chance::Chance;
-use compare::filled;
-use drafts::{FAMILIES, Family, name_of};
+use drafts::{FAMILIES, Family};
+use held::Held;
 use kinds::micros::Micros;
 use kinds::strict::StrictMicros;
 use limits::try_limits;
-use model::Model;
+use model::{MOST_CELLS, MOST_EVENTS};
+use net::net::Net;
 use nets::try_net;
 use successions::try_succession;
 use table::grid::blank;
 use tally::Tally;
 
 // How many nets of each family, and from how many events to how many.
+// Clone and Copy alone in this file: nothing compares or prints these values.
 #[derive(Clone, Copy)]
 struct Group {
     cases: usize,
@@ -45,8 +50,8 @@ const SMALL: Group = Group {
 
 const LARGE: Group = Group {
     cases: 4,
-    least: 128,
-    most: 128,
+    least: MOST_EVENTS,
+    most: MOST_EVENTS,
 };
 
 const SUCCESSIONS: usize = 1000;
@@ -69,7 +74,7 @@ const STRICT: Draw = Draw {
 };
 
 fn print_mismatch(
-    rt: &HostRuntime,
+    rt: &impl Print,
     tally: &mut Tally,
     group: &str,
     case: usize,
@@ -80,22 +85,8 @@ fn print_mismatch(
     Ok(())
 }
 
-fn print_group(rt: &HostRuntime, tally: &Tally, group: &str, kind: &str) -> anyhow::Result<()> {
-    let calls = tally.calls;
-    let refused = tally.refused;
-    let closed = tally.closed;
-    let contradictory = tally.contradictory;
-    let distances = tally.distances;
-    let walks = tally.walks;
-    let sheets = tally.sheets;
-    println!(rt;
-        "{group}, {kind}: {calls} calls, {refused} refused, {closed} closed, {contradictory} contradictory, {distances} distances and windows, {walks} walks, {sheets} sheets"
-    )?;
-    Ok(())
-}
-
-fn run_limits(rt: &HostRuntime) -> anyhow::Result<()> {
-    let mut tally = Tally::new();
+fn run_limits(rt: &(impl Print + AllocGlobal)) -> anyhow::Result<()> {
+    let mut tally = Tally::default();
     try_limits(rt.alloc(), &mut tally)?;
     print_mismatch(rt, &mut tally, "limits", 0)?;
     let calls = tally.calls;
@@ -105,37 +96,31 @@ fn run_limits(rt: &HostRuntime) -> anyhow::Result<()> {
 }
 
 fn run_family<K: Sample>(
-    rt: &HostRuntime,
+    rt: &(impl Print + AllocGlobal),
     draw: Draw,
     family: Family,
     group: Group,
 ) -> anyhow::Result<()> {
     let heap = rt.alloc();
-    let mut cells = filled(heap, blank::<K>(), 16384)?;
-    let mut others = filled(heap, blank::<K>(), 16384)?;
-    let mut tally = Tally::new();
-    let mut chance = Chance::seeded(draw.seed);
-    let cases = group.cases;
-    let most = group.most;
-    let kin = name_of(family);
-    let reach = if group.least < most { "up to " } else { "" };
-    let name = format!(in heap; "{cases} {kin} of {reach}{most} events")?;
+    let Draw { kind, seed } = draw;
+    let Group { cases, least, most } = group;
+    let mut cells = vec![in heap; blank::<K>(); MOST_CELLS]?;
+    let mut others = vec![in heap; blank::<K>(); MOST_CELLS]?;
+    let mut tally = Tally::default();
+    let mut chance = Chance::seeded(seed);
+    let reach = if least < most { "up to " } else { "" };
+    let name = format!(in heap; "{cases} {family} of {reach}{most} events")?;
     for case in 0..cases {
-        let span = group.most.wrapping_sub(group.least).wrapping_add(1);
-        let n = group.least.wrapping_add(chance.below(span));
-        let mut model = Model::made(heap, cells.len())?;
-        try_net(
-            cells.as_mut_slice(),
-            others.as_mut_slice(),
-            &mut model,
-            family,
-            n,
-            &mut chance,
-            &mut tally,
-        )?;
+        let span = most.saturating_sub(least).saturating_add(1);
+        let n = least.saturating_add(chance.below(span));
+        let mut held = Held::over(heap, cells.as_mut_slice(), &mut tally)?;
+        let mut other = Net::make(others.as_mut_slice());
+        try_net(&mut held, &mut other, family, n, &mut chance)?;
+        drop(held);
         print_mismatch(rt, &mut tally, name.as_str(), case)?;
     }
-    print_group(rt, &tally, name.as_str(), draw.kind)
+    println!(rt; "{name}, {kind}: {tally}")?;
+    Ok(())
 }
 
 // A table for up to fourteen events, or now and then a smaller one.
@@ -147,30 +132,34 @@ fn some_room(chance: &mut Chance) -> usize {
     }
 }
 
-fn run_successions<K: Sample>(rt: &HostRuntime, draw: Draw) -> anyhow::Result<()> {
+// No frame for this and `run_family`: here each case has a table of its own size.
+// a frame of its own: a family shares two tables, and each succession has one of its own size
+fn run_successions<K: Sample>(rt: &(impl Print + AllocGlobal), draw: Draw) -> anyhow::Result<()> {
     let heap = rt.alloc();
-    let mut tally = Tally::new();
-    let mut chance = Chance::seeded(draw.seed);
+    let Draw { kind, seed } = draw;
+    let mut tally = Tally::default();
+    let mut chance = Chance::seeded(seed);
     let name = format!(in heap; "{SUCCESSIONS} successions of calls")?;
     for case in 0..SUCCESSIONS {
-        let room = some_room(&mut chance);
-        let mut cells = filled(heap, blank::<K>(), room)?;
-        let mut model = Model::made(heap, room)?;
-        try_succession(cells.as_mut_slice(), &mut model, &mut chance, &mut tally)?;
+        let mut cells = vec![in heap; blank::<K>(); some_room(&mut chance)]?;
+        let mut held = Held::over(heap, cells.as_mut_slice(), &mut tally)?;
+        try_succession(&mut held, &mut chance)?;
+        drop(held);
         print_mismatch(rt, &mut tally, name.as_str(), case)?;
     }
-    print_group(rt, &tally, name.as_str(), draw.kind)
+    println!(rt; "{name}, {kind}: {tally}")?;
+    Ok(())
 }
 
-fn run_kind<K: Sample>(rt: &HostRuntime, draw: Draw) -> anyhow::Result<()> {
-    for family in FAMILIES.iter() {
-        run_family::<K>(rt, draw, *family, SMALL)?;
-        run_family::<K>(rt, draw, *family, LARGE)?;
+fn run_kind<K: Sample>(rt: &(impl Print + AllocGlobal), draw: Draw) -> anyhow::Result<()> {
+    for family in FAMILIES {
+        run_family::<K>(rt, draw, family, SMALL)?;
+        run_family::<K>(rt, draw, family, LARGE)?;
     }
     run_successions::<K>(rt, draw)
 }
 
-fn run(rt: &HostRuntime) -> anyhow::Result<()> {
+fn run(rt: &(impl Print + AllocGlobal)) -> anyhow::Result<()> {
     run_limits(rt)?;
     run_kind::<Micros>(rt, WHOLE)?;
     run_kind::<StrictMicros>(rt, STRICT)

@@ -2,86 +2,74 @@
 use super::amount::{Amount, lesser, sum};
 use std::alloc::{AllocError, Global};
 
-#[derive(Drop)]
+#[derive(Clone, Drop)]
 pub struct Matrix {
-    size: usize,
-    entries: Vec<Option<Amount>>,
+    rows: Vec<Vec<Option<Amount>>>,
 }
 
 impl Matrix {
     pub fn empty(heap: Global, size: usize) -> Result<Matrix, AllocError> {
-        let entries = vec![in heap; None; size.wrapping_mul(size)]?;
-        Ok(Matrix { size, entries })
-    }
-
-    pub fn size(&self) -> usize {
-        self.size
-    }
-
-    pub fn at(&self, i: usize, j: usize) -> Option<Amount> {
-        if i >= self.size || j >= self.size {
-            return None;
-        }
-        match self.entries.get(i.wrapping_mul(self.size).wrapping_add(j)) {
-            Some(entry) => *entry,
-            None => None,
-        }
-    }
-
-    pub fn put(&mut self, i: usize, j: usize, entry: Option<Amount>) {
-        if i >= self.size || j >= self.size {
-            return;
-        }
-        if let Some(old) = self
-            .entries
-            .get_mut(i.wrapping_mul(self.size).wrapping_add(j))
-        {
-            *old = entry;
-        }
-    }
-
-    pub fn copy(&self) -> Result<Matrix, AllocError> {
-        let entries = self.entries.clone()?;
+        let row = vec![in heap; None; size]?;
         Ok(Matrix {
-            size: self.size,
-            entries,
+            rows: vec![in heap; row; size]?,
         })
     }
 
-    fn has_negative_diagonal(&self) -> bool {
-        for i in 0..self.size {
-            if let Some(d) = self.at(i, i) {
-                if d.less(Amount::ZERO) {
-                    return true;
-                }
-            }
-        }
-        false
+    pub fn size(&self) -> usize {
+        self.rows.len()
     }
 
-    fn through(&mut self, k: usize) {
-        for i in 0..self.size {
-            let front = self.at(i, k);
-            for j in 0..self.size {
-                let by = sum(front, self.at(k, j));
-                let least = lesser(self.at(i, j), by);
-                self.put(i, j, least);
+    pub fn rows(&self) -> &[Vec<Option<Amount>>] {
+        self.rows.as_slice()
+    }
+
+    pub fn at(&self, i: usize, j: usize) -> Option<Amount> {
+        *self.rows.get(i)?.get(j)?
+    }
+
+    pub fn put(&mut self, i: usize, j: usize, entry: Option<Amount>) {
+        if let Some(row) = self.rows.get_mut(i) {
+            if let Some(old) = row.get_mut(j) {
+                *old = entry;
             }
         }
+    }
+
+    fn has_negative_diagonal(&self) -> bool {
+        (0..self.size()).any(|i| self.at(i, i).is_some_and(|sum| sum < Amount::ZERO))
+    }
+
+    // Each entry becomes the lesser of itself and the sum by way of k.
+    fn lower_through(&mut self, k: usize) -> Result<(), AllocError> {
+        let Some(through) = self.rows.get(k) else {
+            return Ok(());
+        };
+        let through = through.clone()?;
+        for row in self.rows.iter_mut() {
+            lower(row.as_mut_slice(), k, through.as_slice());
+        }
+        Ok(())
+    }
+
+    // Least sums of the walks over the bounds; none where some loop is under zero.
+    pub fn least_sums(&self) -> Result<Option<Matrix>, AllocError> {
+        let mut sums = self.clone()?;
+        for i in 0..self.size() {
+            sums.put(i, i, Some(Amount::ZERO));
+        }
+        for k in 0..self.size() {
+            sums.lower_through(k)?;
+            if sums.has_negative_diagonal() {
+                return Ok(None);
+            }
+        }
+        Ok(Some(sums))
     }
 }
 
-// Least sums of the walks over the bounds; none where some loop is under zero.
-pub fn least_sums(bounds: &Matrix) -> Result<Option<Matrix>, AllocError> {
-    let mut sums = bounds.copy()?;
-    for i in 0..bounds.size() {
-        sums.put(i, i, Some(Amount::ZERO));
+fn lower(row: &mut [Option<Amount>], k: usize, through: &[Option<Amount>]) {
+    let front = row.get(k).copied().flatten();
+    for (entry, back) in row.iter_mut().zip(through) {
+        *entry = lesser(*entry, sum(front, *back));
     }
-    for k in 0..bounds.size() {
-        sums.through(k);
-        if sums.has_negative_diagonal() {
-            return Ok(None);
-        }
-    }
-    Ok(Some(sums))
 }

@@ -1,5 +1,7 @@
 // A plain model of a net: the bounds in force, the ordering, and the least sums once closed.
+// The limits, calls and refusals of a net once more, on purpose: the net is held to what the trial knows by itself.
 use super::amount::{Amount, lesser};
+use super::failure::Failure;
 use super::graph::ranking;
 use super::matrix::Matrix;
 use net::refusal::Refusal;
@@ -7,7 +9,10 @@ use std::alloc::{AllocError, Global};
 
 pub const MOST_EVENTS: usize = 128;
 
-pub const MOST_SIZE: u128 = 1 << 40;
+pub const MOST_CELLS: usize = MOST_EVENTS * MOST_EVENTS;
+
+// The greatest size of a bound.
+pub const LIMIT: i64 = 1 << 40;
 
 #[derive(Drop)]
 pub struct Model {
@@ -18,11 +23,22 @@ pub struct Model {
     pub sums: Option<Matrix>,
 }
 
-// Either the call is accepted or refused, or there is no memory to tell.
-pub type Answer = Result<Result<(), Refusal>, AllocError>;
+// An event as a byte: those of a net are below 128.
+pub fn event_byte(event: usize) -> u8 {
+    (event & 0xff) as u8
+}
+
+// The first n events in order.
+pub fn events_below(heap: Global, n: usize) -> Result<Vec<u8>, AllocError> {
+    (0..n).map(event_byte).collect(heap)
+}
+
+fn fits(part: i128) -> bool {
+    part.unsigned_abs() <= LIMIT as u128
+}
 
 impl Model {
-    pub fn made(heap: Global, cells: usize) -> Result<Model, AllocError> {
+    pub fn new(heap: Global, cells: usize) -> Result<Model, AllocError> {
         Ok(Model {
             heap,
             cells,
@@ -36,23 +52,20 @@ impl Model {
         self.bounds.size()
     }
 
-    pub fn begin(&mut self, n: usize) -> Answer {
-        if n < 1 || n > MOST_EVENTS {
-            return Ok(Err(Refusal::EventsOutOfRange));
+    pub fn begin(&mut self, n: usize) -> Result<(), Failure<Refusal>> {
+        if n == 0 || n > MOST_EVENTS {
+            return Err(Refusal::EventsOutOfRange.into());
         }
-        if n.wrapping_mul(n) > self.cells {
-            return Ok(Err(Refusal::TooFewCells));
+        if n * n > self.cells {
+            return Err(Refusal::TooFewCells.into());
         }
         self.bounds = Matrix::empty(self.heap, n)?;
-        let mut order = Vec::new(self.heap);
-        for event in 0..n {
-            order.push((event & 0xff) as u8)?;
-        }
-        self.order = order;
+        self.order = events_below(self.heap, n)?;
         self.sums = None;
-        Ok(Ok(()))
+        Ok(())
     }
 
+    // events go as plain numbers, as the net takes them
     fn pair(&self, i: usize, j: usize) -> Result<(), Refusal> {
         if i >= self.events() || j >= self.events() {
             return Err(Refusal::NoSuchEvent);
@@ -65,7 +78,7 @@ impl Model {
 
     pub fn require(&mut self, i: usize, j: usize, bound: Amount) -> Result<(), Refusal> {
         self.pair(i, j)?;
-        if bound.number.unsigned_abs() > MOST_SIZE || bound.mark.unsigned_abs() > MOST_SIZE {
+        if !fits(bound.number) || !fits(bound.mark) {
             return Err(Refusal::TooLarge);
         }
         let least = lesser(self.bounds.at(i, j), Some(bound));
@@ -84,23 +97,23 @@ impl Model {
         Ok(())
     }
 
-    pub fn arrange(&mut self, list: &[u8]) -> Answer {
+    pub fn arrange(&mut self, list: &[u8]) -> Result<(), Failure<Refusal>> {
         if list.len() != self.events() {
-            return Ok(Err(Refusal::WrongCount));
+            return Err(Refusal::WrongCount.into());
         }
-        let mut order: Vec<u8> = Vec::new(self.heap);
-        for event in list.iter() {
-            if *event as usize >= self.events() {
-                return Ok(Err(Refusal::OutsideNet));
+        let mut order = Vec::new(self.heap);
+        for event in list {
+            if usize::from(*event) >= self.events() {
+                return Err(Refusal::OutsideNet.into());
             }
             if order.contains(event) {
-                return Ok(Err(Refusal::NamedTwice));
+                return Err(Refusal::NamedTwice.into());
             }
             order.push(*event)?;
         }
         self.order = order;
         self.sums = None;
-        Ok(Ok(()))
+        Ok(())
     }
 
     pub fn rank(&mut self) -> Result<(), AllocError> {

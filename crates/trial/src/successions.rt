@@ -2,15 +2,12 @@
 use super::amount::Sample;
 use super::bytes::sheet_of;
 use super::chance::Chance;
-use super::compare::{compare_close, compare_closed, compare_open, compare_state};
 use super::drafts::{Demand, FAMILIES, Family, drafted, shuffled};
-use super::model::Model;
-use super::nets::{arrange_both, begin_both, rank_both, require_both, withdraw_both};
+use super::failure::expected;
+use super::held::Held;
+use super::model::{LIMIT, MOST_EVENTS, Model};
 use super::sheets::{compare_read, damage};
-use super::tally::Tally;
-use net::net::Net;
 use std::alloc::AllocError;
-use table::cell::Cell;
 
 const CALLS: usize = 60;
 
@@ -18,7 +15,7 @@ const CALLS: usize = 60;
 fn some_event(model: &Model, chance: &mut Chance) -> usize {
     let n = model.events();
     if chance.in_hundred(4) {
-        n.wrapping_add(chance.below(3))
+        n.saturating_add(chance.below(3))
     } else {
         chance.below(n)
     }
@@ -26,9 +23,9 @@ fn some_event(model: &Model, chance: &mut Chance) -> usize {
 
 fn some_demand(model: &Model, chance: &mut Chance) -> Demand {
     let number = match chance.below(24) {
-        0 => (1 << 40) + 1,
-        1 => -(1 << 40) - 1,
-        2 => 1 << 40,
+        0 => LIMIT + 1,
+        1 => -LIMIT - 1,
+        2 => LIMIT,
         3 | 4 => chance.between(-60, 0),
         _ => chance.between(-5, 100),
     };
@@ -43,15 +40,17 @@ fn some_demand(model: &Model, chance: &mut Chance) -> Demand {
 // An ordering of the events, or one with a slip.
 fn some_list(model: &Model, chance: &mut Chance) -> Result<Vec<u8>, AllocError> {
     let mut list = shuffled(model.heap, model.events(), chance)?;
+    // by the number drawn, as in call_both
     match chance.below(8) {
         0 => list.push(0)?,
         1 => {
+            // one event too few, whichever it is
             let _ = list.pop();
         }
         2 => {
             let at = chance.below(list.len());
             if let Some(entry) = list.get_mut(at) {
-                *entry = (chance.below(16) & 0xff) as u8;
+                *entry = chance.byte() % 16;
             }
         }
         _ => {}
@@ -66,12 +65,14 @@ fn some_family(chance: &mut Chance) -> Family {
 
 // The sheet of a random net, sound or damaged.
 fn some_sheet<K: Sample>(model: &Model, chance: &mut Chance) -> Result<Vec<u8>, AllocError> {
-    let n = chance.below(8).wrapping_add(1);
-    let mut drawn = Model::made(model.heap, n.wrapping_mul(n))?;
-    let _ = drawn.begin(n)?;
+    let n = chance.below(8).saturating_add(1);
+    let mut drawn = Model::new(model.heap, n.saturating_mul(n))?;
+    // accepted: there are from 1 to 8 events, and a cell for each pair
+    let _ = expected(drawn.begin(n))?;
     let demands = drafted(model.heap, some_family(chance), n, chance)?;
     for demand in demands.iter() {
         let bound = K::made(demand.number, demand.mark);
+        // what is refused is left out of the sheet
         let _ = drawn.require(demand.from, demand.to, bound.told());
     }
     drawn.rank()?;
@@ -83,55 +84,39 @@ fn some_sheet<K: Sample>(model: &Model, chance: &mut Chance) -> Result<Vec<u8>, 
 fn some_size(chance: &mut Chance) -> usize {
     match chance.below(12) {
         0 => 0,
-        1 => 128,
-        2 => 129,
-        _ => chance.below(14).wrapping_add(1),
+        1 => MOST_EVENTS,
+        2 => MOST_EVENTS + 1,
+        _ => chance.below(14).saturating_add(1),
     }
 }
 
-fn ask_both<K: Sample>(
-    net: &Net<'_, K>,
-    model: &Model,
-    tally: &mut Tally,
-) -> Result<(), AllocError> {
-    if model.sums.is_some() {
-        compare_closed(net, model, tally)
-    } else {
-        compare_open(net, model, tally)
+fn call_both<K: Sample>(held: &mut Held<'_, K>, chance: &mut Chance) -> Result<(), AllocError> {
+    if held.model.events() == 0 && chance.in_hundred(60) {
+        return held.begin(some_size(chance));
     }
-}
-
-fn call_both<K: Sample>(
-    net: &mut Net<'_, K>,
-    model: &mut Model,
-    chance: &mut Chance,
-    tally: &mut Tally,
-) -> Result<(), AllocError> {
-    if model.events() == 0 && chance.in_hundred(60) {
-        return begin_both(net, model, some_size(chance), tally);
-    }
+    // by the number drawn: an enum of steps would have the same arms, and the draws must stay as they are
     match chance.below(32) {
-        0 => begin_both(net, model, some_size(chance), tally),
-        1 | 2 => {
-            let list = some_list(model, chance)?;
-            arrange_both(net, model, list.as_slice(), tally)
+        0 => held.begin(some_size(chance)),
+        1..=2 => {
+            let list = some_list(&held.model, chance)?;
+            held.arrange(list.as_slice())
         }
-        3 => rank_both(net, model, tally),
+        3 => held.rank(),
         4 => {
-            let bytes = some_sheet::<K>(model, chance)?;
-            compare_read(net, model, bytes.as_slice(), tally)
+            let bytes = some_sheet::<K>(&held.model, chance)?;
+            compare_read(held, bytes.as_slice())
         }
-        5 | 6 | 7 | 8 => compare_close(net, model, tally),
-        9 | 10 | 11 => ask_both(net, model, tally),
-        12 | 13 | 14 | 15 | 16 | 17 => {
-            let i = some_event(model, chance);
-            let j = some_event(model, chance);
-            withdraw_both(net, model, i, j, tally);
+        5..=8 => held.close(),
+        9..=11 => held.ask(),
+        12..=17 => {
+            let i = some_event(&held.model, chance);
+            let j = some_event(&held.model, chance);
+            held.withdraw(i, j);
             Ok(())
         }
         _ => {
-            let demand = some_demand(model, chance);
-            require_both(net, model, demand, tally);
+            let demand = some_demand(&held.model, chance);
+            held.require(demand);
             Ok(())
         }
     }
@@ -139,16 +124,13 @@ fn call_both<K: Sample>(
 
 // The state agrees after every call.
 pub fn try_succession<K: Sample>(
-    cells: &mut [Cell<K>],
-    model: &mut Model,
+    held: &mut Held<'_, K>,
     chance: &mut Chance,
-    tally: &mut Tally,
 ) -> Result<(), AllocError> {
-    let mut net = Net::make(cells);
-    compare_state(&net, model, tally);
+    held.compare_state();
     for _ in 0..CALLS {
-        call_both(&mut net, model, chance, tally)?;
-        compare_state(&net, model, tally);
+        call_both(held, chance)?;
+        held.compare_state();
     }
-    ask_both(&net, model, tally)
+    held.ask()
 }

@@ -1,5 +1,8 @@
 // What a group of cases has gone through, and whether something did not agree.
-#[derive(Drop)]
+use net::refusal::Refusal;
+use std::fmt;
+
+#[derive(Default, Drop)]
 pub struct Tally {
     pub calls: u64,
     pub refused: u64,
@@ -12,43 +15,62 @@ pub struct Tally {
 }
 
 impl Tally {
-    pub fn new() -> Tally {
-        Tally {
-            calls: 0,
-            refused: 0,
-            closed: 0,
-            contradictory: 0,
-            distances: 0,
-            walks: 0,
-            sheets: 0,
-            mismatch: None,
-        }
-    }
-
     // Keeps the first thing that did not agree.
     pub fn agree(&mut self, agrees: bool, what: &'static str) {
-        if !agrees && self.mismatch.is_none() {
-            self.mismatch = Some(what);
+        if !agrees {
+            self.mismatch = self.mismatch.or(Some(what));
         }
     }
 
     // Hands out what did not agree, and forgets it.
     pub fn take_mismatch(&mut self) -> Option<&'static str> {
-        let found = self.mismatch;
-        self.mismatch = None;
-        found
+        self.mismatch.take()
     }
 
     // Counts a call and holds its answer to the expected one.
-    pub fn answer(&mut self, refused: bool, agrees: bool, what: &'static str) {
-        self.calls = self.calls.wrapping_add(1);
-        if refused {
-            self.refused = self.refused.wrapping_add(1);
+    pub fn answer<E: PartialEq + Drop>(
+        &mut self,
+        expected: Result<(), E>,
+        answer: Result<(), E>,
+        what: &'static str,
+    ) {
+        count(&mut self.calls);
+        if expected.is_err() {
+            count(&mut self.refused);
         }
-        self.agree(agrees, what);
+        self.agree(answer == expected, what);
+    }
+
+    // Holds a question's answer to the refusal that is expected.
+    pub fn refuses<T: Drop>(
+        &mut self,
+        answer: Result<T, Refusal>,
+        expected: Refusal,
+        what: &'static str,
+    ) {
+        self.agree(answer.is_err_and(|why| why == expected), what);
+    }
+}
+
+impl fmt::Display for Tally {
+    fn fmt<W: fmt::Write>(&self, f: &mut fmt::Formatter<W>) -> fmt::Result {
+        let Tally {
+            calls,
+            refused,
+            closed,
+            contradictory,
+            distances,
+            walks,
+            sheets,
+            ..
+        } = self;
+        write!(
+            f,
+            "{calls} calls, {refused} refused, {closed} closed, {contradictory} contradictory, {distances} distances and windows, {walks} walks, {sheets} sheets"
+        )
     }
 }
 
 pub fn count(counter: &mut u64) {
-    *counter = counter.wrapping_add(1);
+    *counter = counter.saturating_add(1);
 }

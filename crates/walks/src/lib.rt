@@ -3,50 +3,34 @@
 
 ghost use Rattle.walks.specs.Claims.{ContradictionIsLoop, DistanceIsLeast, DistanceHasRoute, DistancesAreMetric, DistancesAreSmall, ContradictionIsNoSchedule, TimesAreSchedule, WindowsAreExact};
 
-pub fn contradiction_is_a_loop() -> u8
+pub fn contradiction_is_a_loop()
     ensures { ContradictionIsLoop }
-{
-    0
-}
+{}
 
-pub fn distance_is_least() -> u8
+pub fn distance_is_least()
     ensures { DistanceIsLeast }
-{
-    0
-}
+{}
 
-pub fn distance_has_a_route() -> u8
+pub fn distance_has_a_route()
     ensures { DistanceHasRoute }
-{
-    0
-}
+{}
 
-pub fn distances_are_a_metric() -> u8
+pub fn distances_are_a_metric()
     ensures { DistancesAreMetric }
-{
-    0
-}
+{}
 
-pub fn distances_are_small() -> u8
+pub fn distances_are_small()
     ensures { DistancesAreSmall }
-{
-    0
-}
+{}
 
-pub fn contradiction_leaves_no_schedule() -> u8
+pub fn contradiction_leaves_no_schedule()
     ensures { ContradictionIsNoSchedule }
-{
-    0
-}
+{}
 
-pub fn times_are_a_schedule() -> u8
+pub fn times_are_a_schedule()
     ensures { TimesAreSchedule }
-{
-    0
-}
+{}
 
-pub fn windows_are_exact() -> u8
+pub fn windows_are_exact()
     ensures { WindowsAreExact }
-{
-    0
-}
+{}

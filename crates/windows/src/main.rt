@@ -9,8 +9,7 @@ fn main(rt: HostRuntime) -> io::Result<()> {
     let mut sheet = Vec::new(rt.alloc());
     rt.stdin().read_to_end(&mut sheet)?;
     let mut place = [0u8; SHORTEST_PLACE];
-    match listing(&sheet, &mut place) {
-        Ok(length) => rt.stdout().write_all(&place[0..length]),
-        Err(_) => unreachable(),
-    }
+    // a length, as hosts in C get it
+    let length = listing(&sheet, &mut place).unwrap();
+    rt.stdout().write_all(&place[..length])
 }

@@ -6,9 +6,11 @@ ghost use Rattle.net.specs.State.{state, room, Sound};
 ghost use Rattle.net.specs.Kept.{Kept};
 ghost use Rattle.net.specs.Closing.{closing, closed, numbered, carried, Shown, Rest};
 
+use super::super::links::counts;
 use super::super::mode::Mode;
 use super::super::refusal::Refusal;
 use super::Net;
+use closing::close::close_cells;
 use kinds::kind::Kind;
 use order::counts::Counts;
 
@@ -26,19 +28,12 @@ impl<'t, K: Kind> Net<'t, K> {
         ensures sound { Sound K.Kind.arithmetic (state K.Kind.amount self.old) → Sound K.Kind.arithmetic (state K.Kind.amount self.new) }
         ensures faithful { Kept K.Kind.arithmetic K.Kind.amount self.old → Kept K.Kind.arithmetic K.Kind.amount self.new }
     {
-        if place.len() < self.events {
+        if place.len() < self.table.events() {
             return Err(Refusal::PlaceTooShort);
         }
-        let order = self.order;
-        match self.table.close(&order, place) {
-            Ok(()) => {
-                self.mode = Mode::Closed;
-                Ok(self.table.counts(&order))
-            }
-            Err(events) => {
-                self.mode = Mode::Open;
-                Err(Refusal::Contradiction(events))
-            }
-        }
+        self.mode = Mode::Open;
+        close_cells(&mut self.table, place)?;
+        self.mode = Mode::Closed;
+        Ok(counts(&self.table))
     }
 }

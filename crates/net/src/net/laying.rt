@@ -1,19 +1,19 @@
 // How bounds are laid down and withdrawn.
-ghost use Rattle.std.specs.Prelude.{◌≡◌, ◌<◌, OnOk, ◌≢◌};
-ghost use Rattle.table.specs.Cells.{amount_of};
+ghost use Rattle.std.specs.Prelude.{◌≡◌, ◌<◌, ◌≤◌, OnOk, ◌≢◌};
 ghost use Rattle.net.specs.Kept.{Kept};
+ghost use Rattle.net.specs.Limits.{most_size};
 ghost use Rattle.net.specs.Refusals.{answered};
-ghost use Rattle.net.specs.State.{state, room, outcome, Untouched, Sound};
+ghost use Rattle.net.specs.State.{State, state, room, outcome, Untouched, Sound};
 ghost use Rattle.net.specs.State as call;
 
+use super::super::lesser::lesser;
 use super::super::mode::Mode;
 use super::super::refusal::Refusal;
 use super::Net;
 use kinds::kind::Kind;
-use std::cmp::Ordering;
 
 // The greatest size of a bound.
-pub const MOST_SIZE: u64 = 1_099_511_627_776;
+pub const MOST_SIZE: u64 = 1 << 40;
 
 impl<'t, K: Kind> Net<'t, K> {
     // Lays down a bound: the time of j minus the time of i is at most it.
@@ -24,14 +24,10 @@ impl<'t, K: Kind> Net<'t, K> {
         ensures sound { Sound K.Kind.arithmetic (state K.Kind.amount self.old) → Sound K.Kind.arithmetic (state K.Kind.amount self.new) }
         ensures faithful { Kept K.Kind.arithmetic K.Kind.amount self.old → Kept K.Kind.arithmetic K.Kind.amount self.new }
     {
-        let n = self.events;
-        check_pair(n, i, j)?;
-        if bound.size() > MOST_SIZE {
-            return Err(Refusal::TooLarge);
-        }
-        let mut cell = self.table.at(n, i, j);
-        cell.bound = Some(lesser(cell.bound, bound));
-        self.table.put(n, i, j, cell);
+        check_require(self.table.events(), i, j, bound)?;
+        let mut cell = self.table.at(i, j);
+        cell.bound = lesser(cell.bound, Some(bound));
+        self.table.put(i, j, cell);
         self.mode = Mode::Open;
         Ok(())
     }
@@ -44,17 +40,25 @@ impl<'t, K: Kind> Net<'t, K> {
         ensures sound { Sound K.Kind.arithmetic (state K.Kind.amount self.old) → Sound K.Kind.arithmetic (state K.Kind.amount self.new) }
         ensures faithful { Kept K.Kind.arithmetic K.Kind.amount self.old → Kept K.Kind.arithmetic K.Kind.amount self.new }
     {
-        let n = self.events;
-        check_pair(n, i, j)?;
-        let mut held = self.table.at(n, i, j);
-        if held.bound.is_none() {
-            return Err(Refusal::NothingToWithdraw);
-        }
-        held.bound = None;
-        self.table.put(n, i, j, held);
+        check_pair(self.table.events(), i, j)?;
+        let mut held = self.table.at(i, j);
+        held.bound.take().ok_or(Refusal::NothingToWithdraw)?;
+        self.table.put(i, j, held);
         self.mode = Mode::Open;
         Ok(())
     }
+}
+
+// Whether i and j are events of a net of n.
+// two plain numbers, as hosts give them: a pair would be made and taken apart in each call
+pub(super) fn check_events(n: usize, i: usize, j: usize) -> Result<(), Refusal>
+    ensures value { answered result ≡ call.known n i j }
+    ensures good { OnOk result ((i < n) × (j < n)) }
+{
+    if i >= n || j >= n {
+        return Err(Refusal::NoSuchEvent);
+    }
+    Ok(())
 }
 
 // Whether a bound can join i and j in a net of n events.
@@ -62,25 +66,21 @@ fn check_pair(n: usize, i: usize, j: usize) -> Result<(), Refusal>
     ensures value { answered result ≡ call.paired n i j }
     ensures good { OnOk result ((i < n) × (j < n) × (i ≢ j)) }
 {
-    if i >= n || j >= n {
-        return Err(Refusal::NoSuchEvent);
-    }
+    check_events(n, i, j)?;
     if i == j {
         return Err(Refusal::SameEvent);
     }
     Ok(())
 }
 
-// The lesser of the bound in force, if any, and a new one.
-fn lesser<K: Kind>(old: Option<K>, new: K) -> K
-    ensures { K.Kind.amount result ≡ call.lesser K.Kind.arithmetic (amount_of K.Kind.amount old) (K.Kind.amount new) }
+// Whether a net of n events takes the bound from i to j.
+pub fn check_require<K: Kind>(n: usize, i: usize, j: usize, bound: K) -> Result<(), Refusal>
+    ensures value { (s : State) → s.events ≡ n → answered result ≡ (call.required K.Kind.arithmetic i j (K.Kind.amount bound) s).answer }
+    ensures good { OnOk result ((i < n) × (j < n) × (i ≢ j) × (K.Kind.arithmetic.size (K.Kind.amount bound) ≤ most_size)) }
 {
-    match old {
-        None => new,
-        Some(old) => match new.compare(old) {
-            Ordering::Less => new,
-            Ordering::Equal => old,
-            Ordering::Greater => old,
-        },
+    check_pair(n, i, j)?;
+    if bound.size() > MOST_SIZE {
+        return Err(Refusal::TooLarge);
     }
+    Ok(())
 }

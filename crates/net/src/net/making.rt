@@ -1,17 +1,17 @@
 // How a net is made, and how it begins.
-ghost use Rattle.std.specs.Prelude.{◌≡◌, length};
+ghost use Rattle.std.specs.Prelude.{◌≡◌, ◌≤◌, length, OnOk};
 ghost use Rattle.net.specs.Kept.{Kept};
+ghost use Rattle.net.specs.Limits.{most_events, cells_needed};
 ghost use Rattle.net.specs.Refusals.{answered};
-ghost use Rattle.net.specs.State.{state, room, outcome, Untouched, Sound};
+ghost use Rattle.net.specs.State.{State, state, room, outcome, Untouched, Sound};
 ghost use Rattle.net.specs.State as call;
 
-use super::super::lent::Table;
 use super::super::mode::Mode;
 use super::super::refusal::Refusal;
 use super::Net;
 use kinds::kind::Kind;
-use order::event_order::EventOrder;
 use table::cell::Cell;
+use table::lent::Table;
 
 // The most events of a net.
 pub const MOST_EVENTS: usize = 128;
@@ -24,11 +24,8 @@ impl<'t, K: Kind> Net<'t, K> {
         ensures faithful { Kept K.Kind.arithmetic K.Kind.amount result }
     {
         let table = Table::over(cells);
-        let order = EventOrder::identity(0);
         Net {
             table,
-            events: 0,
-            order,
             mode: Mode::Open,
         }
     }
@@ -41,16 +38,24 @@ impl<'t, K: Kind> Net<'t, K> {
         ensures sound { Sound K.Kind.arithmetic (state K.Kind.amount self.old) → Sound K.Kind.arithmetic (state K.Kind.amount self.new) }
         ensures faithful { Kept K.Kind.arithmetic K.Kind.amount self.old → Kept K.Kind.arithmetic K.Kind.amount self.new }
     {
-        if n < 1 || n > MOST_EVENTS {
-            return Err(Refusal::EventsOutOfRange);
-        }
-        if n * n > self.table.room() {
-            return Err(Refusal::TooFewCells);
-        }
-        self.table.clear(n * n);
-        self.events = n;
-        self.order = EventOrder::identity(n);
+        check_begin(n, self.table.room())?;
+        self.table.begin(n);
         self.mode = Mode::Open;
         Ok(())
     }
+}
+
+// Whether a net over that many cells can begin with n events.
+pub fn check_begin(n: usize, cells: usize) -> Result<(), Refusal>
+    ensures value { (s : State) → answered result ≡ (call.begun cells n s).answer }
+    ensures good { OnOk result ((1 ≤ n) × (n ≤ most_events) × (cells_needed n ≤ cells)) }
+{
+    // two comparisons: `contains` of a range is no shorter
+    if n < 1 || n > MOST_EVENTS {
+        return Err(Refusal::EventsOutOfRange);
+    }
+    if n * n > cells {
+        return Err(Refusal::TooFewCells);
+    }
+    Ok(())
 }

@@ -7,6 +7,7 @@ ghost use Rattle.net.specs.Refusals.{answered};
 ghost use Rattle.net.specs.State.{state, room, outcome, Untouched, Sound};
 ghost use Rattle.net.specs.State as call;
 
+use super::super::links::by_fewest;
 use super::super::mode::Mode;
 use super::super::refusal::Refusal;
 use super::Net;
@@ -22,8 +23,8 @@ impl<'t, K: Kind> Net<'t, K> {
         ensures sound { Sound K.Kind.arithmetic (state K.Kind.amount self.old) → Sound K.Kind.arithmetic (state K.Kind.amount self.new) }
         ensures faithful { Kept K.Kind.arithmetic K.Kind.amount self.old → Kept K.Kind.arithmetic K.Kind.amount self.new }
     {
-        let order = EventOrder::from_list(list, self.events)?;
-        self.order = order;
+        let order = EventOrder::from_list(list, self.table.events())?;
+        self.table.arrange(order);
         self.mode = Mode::Open;
         Ok(())
     }
@@ -37,7 +38,8 @@ impl<'t, K: Kind> Net<'t, K> {
         ensures sound { Sound K.Kind.arithmetic (state K.Kind.amount self.old) → Sound K.Kind.arithmetic (state K.Kind.amount self.new) }
         ensures faithful { Kept K.Kind.arithmetic K.Kind.amount self.old → Kept K.Kind.arithmetic K.Kind.amount self.new }
     {
-        self.order = self.table.by_fewest(self.events);
+        let order = by_fewest(&self.table);
+        self.table.arrange(order);
         self.mode = Mode::Open;
     }
 }

@@ -9,13 +9,15 @@ ghost use Rattle.net.specs.Told.{amounts_told, shut};
 use super::super::mode::Mode;
 use super::super::refusal::Refusal;
 use super::Net;
+use super::laying::check_events;
 use kinds::kind::Kind;
 
+// Some hand on what the table or the ordering tells, since hosts ask the net alone.
 impl<'t, K: Kind> Net<'t, K> {
     pub fn events(&self) -> usize
         ensures { result ≡ (state K.Kind.amount self.now).events }
     {
-        self.events
+        self.table.events()
     }
 
     // How many cells the net was made over.
@@ -34,21 +36,15 @@ impl<'t, K: Kind> Net<'t, K> {
     pub fn is_closed(&self) -> bool
         ensures { result ≡ shut (state K.Kind.amount self.now).mode }
     {
-        match self.mode {
-            Mode::Open => false,
-            Mode::Closed => true,
-        }
+        self.mode == Mode::Closed
     }
 
     // The bound in force from i to j, if any; an event has none to itself.
     pub fn bound(&self, i: usize, j: usize) -> Result<Option<K>, Refusal>
         ensures { amounts_told K.Kind.amount (answered result) ≡ bound_told i j (state K.Kind.amount self.now) }
     {
-        let n = self.events;
-        if i >= n || j >= n {
-            return Err(Refusal::NoSuchEvent);
-        }
-        let cell = self.table.at(n, i, j);
+        check_events(self.table.events(), i, j)?;
+        let cell = self.table.at(i, j);
         Ok(cell.bound)
     }
 
@@ -56,13 +52,13 @@ impl<'t, K: Kind> Net<'t, K> {
     pub fn event_at(&self, rank: usize) -> Option<usize>
         ensures { result ≡ event_of_rank (state K.Kind.amount self.now).order rank }
     {
-        self.order.event_at(rank)
+        self.table.order.event_at(rank)
     }
 
     // The rank, from 1 to n, of an event.
     pub fn rank_of(&self, event: usize) -> Option<usize>
         ensures { result ≡ rank_of_event (state K.Kind.amount self.now).order event }
     {
-        self.order.rank_of(event)
+        self.table.order.rank_of(event)
     }
 }

@@ -5,6 +5,7 @@ ghost use Rattle.net.specs.State.{state};
 ghost use Rattle.net.specs.Kept.{Kept};
 ghost use Rattle.net.specs.Asking.{times_asked, TimesRest, Timed, Schedules};
 
+use super::super::earliest::write_times;
 use super::super::mode::Mode;
 use super::super::refusal::Refusal;
 use super::Net;
@@ -18,13 +19,13 @@ impl<'t, K: Kind> Net<'t, K> {
         ensures told { Kept K.Kind.arithmetic K.Kind.amount self.now → Timed K.Kind.arithmetic K.Kind.amount (state K.Kind.amount self.now) place.old place.new result }
         ensures schedule { Kept K.Kind.arithmetic K.Kind.amount self.now → OnOk result (Schedules K.Kind.arithmetic K.Kind.amount (state K.Kind.amount self.now) place.new) }
     {
-        if let Mode::Open = self.mode {
+        if self.mode == Mode::Open {
             return Err(Refusal::NotClosed);
         }
-        if place.len() < self.events {
+        if place.len() < self.table.events() {
             return Err(Refusal::PlaceTooShort);
         }
-        self.table.write_times(self.events, place);
+        write_times(&self.table, place);
         Ok(())
     }
 }

@@ -5,6 +5,7 @@ ghost use Rattle.net.specs.Refusals.{reason};
 use super::Refusal;
 
 impl Refusal {
+    // Hosts know these numbers, which leave gaps; an enum that carries a value has no discriminants to cast.
     pub fn number(self) -> u8
         ensures { result ≡ (reason self).number }
     {

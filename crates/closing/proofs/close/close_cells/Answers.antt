@@ -1,37 +1,56 @@
 -- The two ends of closing.
-use Rattle.std.proofs.Common.{refl, ◌∙◌, arith}
-use Rattle.closing.proofs.Tying.{few_names, kept_eliminated, loop_ends, kept_swept, closed_ends}
+use Rattle.std.proofs.Common.{refl, arith}
+use Rattle.eliminator.proofs.Viewing.{same_then}
+use Rattle.closing.specs.Trails.{written}
+use Rattle.closing.proofs.Pushes.{few_names}
+use Rattle.closing.proofs.Tying.{kept_eliminated, loop_ends, kept_swept, closed_ends}
 use Rattle.closing.proofs.close.close_cells.Goals as goal
 
-pub tell-requires : goal.tell-requires
-tell-requires g c =
-    let h = c.show_loop-len.ensures.held in
-    let m = few_names c.args.order.now.count c.show_loop-len.result c.show_loop-len.new.out h c.show_loop-len.ensures.names in
-    record { held = h; room = omega (arith, m, c.requires.room); names = c.show_loop-len.ensures.names }
+pub tell-shown-requires : goal.tell-shown-requires
+tell-shown-requires g c =
+    let s = same_then c.start.ensures.kept c.in-Err.ensures.kept in
+    let few = rw (c.show_loop.ensures.table, s.order) at (few_names _ _ c.show_loop.result.names) in
+    omega (arith, few, c.requires.room)
 
-pub returns-in-Some : goal.returns-in-Some
-returns-in-Some g c =
-    let o = c.args.order.now in
-    let f = c.in-Some.ensures in
+pub returns-in-Err : goal.returns-in-Err
+returns-in-Err g c =
+    let f = c.in-Err.ensures in
+    let l = c.show_loop in
     let a = g.K.Kind.amount in
     let p = g.met.K.Kind.amounts in
+    let o = c.args.table.now.order in
+    let s = same_then c.start.ensures.kept f.kept in
+    let xs = c.start.new.table.cells.now in
+    let ys = c.eliminate.new.table.cells.now in
+    let begun = rw c.start.ensures.kept.order at c.start.ensures.begun in
+    let same = rw (s.order, c.start.ensures.kept.order) at f.same in
+    let failed = rw (s.order, c.start.ensures.kept.order) at f.outcome in
     record {
-      long = f.long ∙ c.start.ensures.long;
-      same = kept_eliminated g.K.Kind.arithmetic a p o c.args.cells.now c.start.new.cells c.eliminate.new.cells c.start.ensures.begun f.same;
-      rest = (few_names o.count c.show_loop-len.result c.show_loop-len.new.out c.show_loop-len.ensures.held c.show_loop-len.ensures.names, c.tell.ensures.rest);
-      ends = loop_ends g.K.Kind.arithmetic a p o c.args.cells.now c.start.new.cells c.eliminate.new.cells c.start.ensures.begun f.same _ _ _ c.tell.new.place c.show_loop-len.result
-          f.outcome.low f.outcome.within c.show_loop-len.ensures.names f.outcome c.show_loop-len.ensures.shows c.tell.ensures.told;
+      kept = s;
+      same = kept_eliminated g.K.Kind.arithmetic a p o c.args.table.now.cells.now xs ys begun same;
+      rest = (rw (l.ensures.table, s.order) at c.tell-shown.ensures.few, c.tell-shown.ensures.rest);
+      ends = loop_ends g.K.Kind.arithmetic a p o c.args.table.now.cells.now xs ys begun same _ _ (written l.result) c.tell-shown.new.place c.tell-shown.result
+          failed.low failed.within (rw (l.ensures.table, s.order) at l.result.names) failed (rw s.order at l.ensures.shows) (rw (l.ensures.table, s.order) at c.tell-shown.ensures.told);
     }
 
-pub returns-in-None : goal.returns-in-None
-returns-in-None g c =
-    let o = c.args.order.now in
-    let f = c.in-None.ensures in
+pub returns : goal.returns
+returns g c =
+    let f = c.in_default.ensures in
     let a = g.K.Kind.amount in
     let p = g.met.K.Kind.amounts in
+    let o = c.args.table.now.order in
+    let s = same_then c.start.ensures.kept f.kept in
+    let t = same_then s c.sweep.ensures.kept in
+    let xs = c.start.new.table.cells.now in
+    let ys = c.eliminate.new.table.cells.now in
+    let zs = c.sweep.new.table.cells.now in
+    let begun = rw c.start.ensures.kept.order at c.start.ensures.begun in
+    let same = rw (s.order, c.start.ensures.kept.order) at f.same in
+    let swept = rw (t.order, s.order) at c.sweep.ensures.swept in
+    let stage = rw (s.order, c.start.ensures.kept.order) at f.outcome in
     record {
-      long = c.sweep.ensures.long ∙ f.long ∙ c.start.ensures.long;
-      same = kept_swept g.K.Kind.arithmetic a p o c.args.cells.now c.start.new.cells c.eliminate.new.cells c.start.ensures.begun f.same c.sweep.new.cells c.sweep.ensures.swept;
+      kept = t;
+      same = kept_swept g.K.Kind.arithmetic a p o c.args.table.now.cells.now xs ys begun same zs swept;
       rest = refl;
-      ends = closed_ends g.K.Kind.arithmetic a p o c.args.cells.now c.start.new.cells c.eliminate.new.cells c.start.ensures.begun f.same c.sweep.new.cells c.sweep.ensures.swept f.outcome;
+      ends = closed_ends g.K.Kind.arithmetic a p o c.args.table.now.cells.now xs ys begun same zs swept stage;
     }

@@ -1,42 +1,52 @@
 -- One column after the other.
-use Rattle.std.proofs.Common.{◌≡◌, ◌+◌, List, length, sym, refl, ap, ◌∙◌, subst, arith}
+use Rattle.std.proofs.Common.{◌≡◌, ℕ, ◌+◌, length, get_or, sym, ap, ◌∙◌, arith}
+use Rattle.order.specs.declared.event_order.EventOrder.{EventOrder}
 use Rattle.table.specs.declared.cell.Cell.{Cell}
-use Rattle.eliminator.specs.Views.{view}
+use Rattle.table.specs.declared.lent.Table.{Table}
+use Rattle.eliminator.specs.Views.{seen}
 use Rattle.eliminator.specs.Members.{Others}
-use Rattle.eliminator.specs.Steps.{RowPart}
+use Rattle.eliminator.specs.Steps.{OneCell, RowPart}
+use Rattle.eliminator.proofs.Viewing.{same_start, same_then, same_at, same_count}
 use Rattle.eliminator.proofs.Relaxing.{row_start, row_front, row_turn, row_skip}
 use Rattle.eliminator.proofs.eliminate.relax_row.Goals as goal
 
-pub loop-t-init : goal.loop-t-init
-loop-t-init g c = (refl, row_start _ c.args.ranks.now _)
+pub loop-rank-init : goal.loop-rank-init
+loop-rank-init g c = (same_start c.args.table.now, row_start _ c.args.ranks.now _)
 
 pub relax_cell-requires : goal.relax_cell-requires
-relax_cell-requires g c = record {
-  fits = omega (arith, c.loop-t.invariant.0, c.requires.fits);
-  within = c.requires.within;
-  row = c.requires.row;
-  column = c.requires.columns c.loop-t.t c.loop-t-test.true;
-  front = ap (λ (t : Cell g.row.K.Denot). t.worked) c.at_ranks.ensures
-      ∙ sym (row_front _ c.args.m c.loop-t.t c.args.ranks.now (view c.args.order.now c.args.cells.now) (view c.args.order.now c.loop-t.cells) c.requires.columns c.loop-t-test.true c.loop-t.invariant.1 c.requires.row c.requires.within);
-}
+relax_cell-requires g c =
+    let inv = c.loop-rank.invariant in
+    let n = ap (λ (o : EventOrder). o.count) inv.0.order in
+    record {
+      within = omega (arith, c.requires.within);
+      row = c.requires.row;
+      column = c.requires.columns c.loop-rank.rank-index c.loop-rank-test.true;
+      front = ap (λ (t : Cell g.row.K.Denot). t.worked) c.at_ranks.ensures
+          ∙ sym (row_front _ _ _ c.args.ranks.now (seen c.args.table.now) (seen c.loop-rank.table) c.requires.columns c.loop-rank-test.true inv.1 c.requires.row c.requires.within);
+    }
 
 pub returns : goal.returns
-returns g c = let e : c.loop-t.t ≡ c.args.m = omega arith in record { long = c.loop-t.invariant.0; part = rw e at c.loop-t.invariant.1 }
+returns g c = let e : c.loop-rank.rank-index ≡ length c.args.ranks.now = omega arith in record { kept = c.loop-rank.invariant.0; part = rw e at c.loop-rank.invariant.1 }
 
-pub loop-t-preserved : goal.loop-t-preserved
-loop-t-preserved g c =
-    let o = c.args.order.now in
-    let inv = c.loop-t.invariant in
-    let xs = view o c.args.cells.now in
-    let ys = view o c.loop-t.cells in
-    let Next : List (Cell g.row.K.Denot) → Type 0 = λ cells. RowPart g.K.Kind.arithmetic g.K.Kind.amount o.count c.args.k c.args.i (Others c.args.ranks.now (c.loop-t.t + 1) c.args.i) xs (view o cells) in
+pub loop-rank-preserved : goal.loop-rank-preserved
+loop-rank-preserved g c =
+    let inv = c.loop-rank.invariant in
+    let K = g.row.K.Denot in
+    let m = g.K.Kind in
+    let n = c.args.table.now.order.count in
+    let i = c.args.i in
+    let xs = seen c.args.table.now in
+    let ys = seen c.loop-rank.table in
     elim c.if-j-i.branch [
-      | goal.then-j-i w ↦ (
-        ap length w.cells-is ∙ w.relax_cell.ensures.long ∙ inv.0,
-        subst Next (sym w.cells-is) (row_turn _ c.args.m c.loop-t.t c.args.ranks.now xs ys c.requires.columns c.loop-t-test.true inv.1 (view o w.relax_cell.new.cells) c.requires.row c.requires.within c.requires.apart w.if-j-i.true w.relax_cell.ensures.one),
-      )
-      | goal.else-j-i w ↦ (
-        ap length w.cells-is ∙ inv.0,
-        subst Next (sym w.cells-is) (row_skip _ c.args.m c.loop-t.t c.args.ranks.now xs ys c.requires.columns c.loop-t-test.true inv.1 w.if-j-i.false),
-      )
+      | goal.then-j-i w ↦ same_at
+          (λ (t : Table K). RowPart m.arithmetic m.amount n c.args.k i (Others c.args.ranks.now (c.loop-rank.rank-index + 1) i) xs (seen t))
+          w.table-is
+          (same_then inv.0 w.relax_cell.ensures.kept)
+          (row_turn _ _ _ c.args.ranks.now xs ys c.requires.columns c.loop-rank-test.true inv.1 (seen w.relax_cell.new.table) c.requires.row c.requires.within c.requires.apart w.if-j-i.true
+          (same_count (λ (n : ℕ). OneCell m.arithmetic m.amount n c.args.k i (get_or c.args.ranks.now c.loop-rank.rank-index 0) ys (seen w.relax_cell.new.table)) inv.0 w.relax_cell.ensures.one))
+      | goal.else-j-i w ↦ same_at
+          (λ (t : Table K). RowPart m.arithmetic m.amount n c.args.k i (Others c.args.ranks.now (c.loop-rank.rank-index + 1) i) xs (seen t))
+          w.table-is
+          inv.0
+          (row_skip _ _ _ c.args.ranks.now xs ys c.requires.columns c.loop-rank-test.true inv.1 w.if-j-i.false)
     ]

@@ -5,9 +5,8 @@ use Rattle.eliminator.specs.Members.{Lists}
 use Rattle.eliminator.proofs.Visiting.{Seen, Waits}
 use Rattle.eliminator.proofs.members.list.Given as goal
 
-abbrev pub invariant-loop-j : goal.invariant-loop-j
-invariant-loop-j l =
-    (length l.ranks ≡ length l.initial.ranks) × Waits l.initial.rest l.rest × (l.m + how_many (has l.rest) 128 ≤ 128) × Lists (Seen l.initial.rest l.rest) l.ranks l.m
-
-abbrev pub decreases-loop-j : goal.decreases-loop-j
-decreases-loop-j l = how_many (has l.rest) 128
+abbrev pub invariant-loop-rank : goal.invariant-loop-rank
+invariant-loop-rank l =
+    let mine = l.fn.mine in
+    let rest = l.rank-iterator.rest in
+    (length l.place ≡ length l.initial.place) × Waits mine rest × (l.count + how_many (has rest) 128 ≤ 128) × Lists (Seen mine rest) l.place l.count

@@ -1,21 +1,15 @@
-use Rattle.std.proofs.Common.{◌+◌, ◌^◌, ◌≤◌, fold, refl, ap, ◌∙◌, arith, take_all, rules}
+use Rattle.std.proofs.Common.{◌+◌, ◌^◌, ◌≤◌, arith, rules}
 use Rattle.kinds.proofs.Totals.{total_next, item_small, size_next}
 use Rattle.kinds.proofs.total.total.Goals as goal
 
-pub returns-in_err-sum : goal.returns-in_err-sum
-returns-in_err-sum g c =
+pub returns-in_err-sum-clause-told : goal.returns-in_err-sum-clause-told
+returns-in_err-sum-clause-told g c few small =
     let k = g.K.Kind in
     let a = k.arithmetic in
-    let l = g.met.K.Kind.lawful in
-    let item = item_small a l k.amount c.args.bounds.now c.loop-b.b-index c.b-item.result (2 ^ 40) c.loop-b-test.true (search rules) in
-    record {
-      exact = search rules;
-      told = λ few small.
-          let h = item small in
-          let i = c.loop-b.invariant.1 small in
-          let le : a.size (k.amount c.loop-b.sum) + a.size (k.amount c.b-item.result) ≤ 2 ^ 60 = omega arith in
-          absurd (c.in_err-sum.ensures le);
-    }
+    let h = item_small a g.met.K.Kind.lawful k.amount c.args.bounds.now c.loop-b.b-index c.b-item.result (2 ^ 40) c.loop-b-test.true (search rules) small in
+    let i = c.loop-b.invariant.1 small in
+    let le : a.size (k.amount c.loop-b.sum) + a.size (k.amount c.b-item.result) ≤ 2 ^ 60 = omega arith in
+    absurd (c.in_err-sum.ensures le)
 
 pub loop-b-preserved : goal.loop-b-preserved
 loop-b-preserved g c =
@@ -28,11 +22,3 @@ loop-b-preserved g c =
       total_next a l k.amount c.args.bounds.now c.loop-b.b-index c.b-item.result _ _ c.loop-b-test.true (search rules) c.loop-b.invariant.0 is,
       λ small. size_next a l k.amount (k.amount c.loop-b.sum) (k.amount c.b-item.result) _ c.loop-b.b-index (m.amounts c.loop-b.sum) (m.amounts c.b-item.result) is (c.loop-b.invariant.1 small) (item small),
     )
-
-pub returns : goal.returns
-returns g c =
-    let k = g.K.Kind in
-    record {
-      exact = c.loop-b.invariant.0 ∙ ap (fold (λ s b. k.arithmetic.plus s (k.amount b)) k.arithmetic.zero) (take_all _ _ c.loop-b-test.false);
-      told = λ _ _. refl;
-    }

@@ -1,16 +1,14 @@
-use Rattle.std.proofs.Common.{◌<◌, length, arith, rules}
-use Rattle.net.proofs.Askings.{turn_written, turn_skipped}
+use Rattle.std.proofs.Common.{◌<◌, ◌∙◌, length, arith}
+use Rattle.std.proofs.lemmas.List.{set-get_or}
+use Rattle.net.proofs.Askings.{least_more, least_skip}
 use Rattle.net.proofs.earliest.write_times.Goals as goal
 use Rattle.net.proofs.earliest.write_times.Goals.{in-Some, in_default}
 
-pub offset_bounds-place-j : goal.offset_bounds-place-j
-offset_bounds-place-j g c = let h : c.loop-j.j < length c.args.place.now = omega arith in search rules
-
 pub loop-j-preserved : goal.loop-j-preserved
-loop-j-preserved g c = elim c.match-earliest.branch [
-  | in-Some w ↦ turn_written g.K.Kind.arithmetic g.K.Kind.amount c.args.n c.loop-j.j c.args.cells.now c.loop-j.place c.args.place.now _ w.in-Some.time (omega arith) (omega arith) w.place-is w.in-Some.ensures c.loop-j.invariant
-  | in_default w ↦ turn_skipped g.K.Kind.arithmetic g.K.Kind.amount c.args.n c.loop-j.j c.args.cells.now c.loop-j.place c.args.place.now _ w.place-is w.in_default.ensures c.loop-j.invariant
-]
-
-pub returns : goal.returns
-returns g c = record { times = λ j t l. c.loop-j.invariant.0 j t (omega arith); rest = c.loop-j.invariant.1 }
+loop-j-preserved g c =
+    let t = c.args.table.now in
+    let l : c.loop-j.j < length c.loop-j.times = omega arith in
+    elim c.match-earliest.branch [
+      | in-Some w ↦ least_more g.K.Kind.arithmetic g.K.Kind.amount t.order.count c.loop-j.j t.cells.now c.loop-j.times _ w.in-Some.least l w.times-is w.in-Some.ensures c.loop-j.invariant
+      | in_default w ↦ least_skip g.K.Kind.arithmetic g.K.Kind.amount t.order.count c.loop-j.j t.cells.now c.loop-j.times _ (w.times-is ∙ set-get_or _ _ _) w.in_default.ensures c.loop-j.invariant
+    ]

@@ -1,7 +1,6 @@
--- The times met so far are written, and nothing past the events.
-use Rattle.std.proofs.Common.{◌≡◌, drop}
+-- The times met so far are written.
 use Rattle.net.specs.Times.{Earliest}
 use Rattle.net.proofs.earliest.write_times.Given as goal
 
 abbrev pub invariant-loop-j : goal.invariant-loop-j
-invariant-loop-j g l = Earliest g.K.Kind.arithmetic g.K.Kind.amount l.n l.cells l.j l.place × (drop l.n l.place ≡ drop l.n l.initial.place)
+invariant-loop-j g l = Earliest g.K.Kind.arithmetic g.K.Kind.amount l.table.order.count l.table.cells.now l.j l.times

@@ -1,13 +1,10 @@
-use Rattle.std.proofs.Common.{◌≡◌, length, sym, ap, ◌∙◌, arith, length-take}
-use Rattle.table.specs.Cells.{bounds, neighbours}
-use Rattle.net.proofs.Neighbourhoods.{counts_moved}
+use Rattle.std.proofs.Common.{◌≡◌}
+use Rattle.order.specs.Orderings.{events_of}
+use Rattle.order.specs.Counted.{counts_of}
+use Rattle.net.proofs.Neighbourhoods.{moved}
 use Rattle.net.proofs.links.counts.Goals as goal
 
-pub returns : goal.returns
-returns g c =
-    let a : length c.gather.new.near ≡ c.args.order.now.count = c.gather.auto.near ∙ simp length-take (omega arith) in
-    let b = sym c.gather.auto.near ∙ a in
-    record {
-      value = counts_moved c.gather.new.near _ _ _ _ _ c.gather.ensures (ap (λ m. neighbours (bounds g.K.Kind.amount m c.args.cells.now)) b) c.count_elimination.ensures.value;
-      bounded = c.count_elimination.ensures.bounded;
-    }
+pub returns-clause-value : goal.returns-clause-value
+returns-clause-value g c =
+    let o = c.args.table.now.order in
+    moved (λ n G. c.count_elimination.result ≡ counts_of o.count G (events_of o)) _ _ _ c.gather.ensures.sized c.gather.ensures.near c.count_elimination.ensures.value

@@ -1,5 +1,5 @@
 -- One event more is eliminated.
-use Rattle.std.proofs.Common.{refl, arith}
+use Rattle.std.proofs.Common.{◌≡◌, max, refl, arith, rules}
 use Rattle.order.proofs.Fills.{telling_starts, telling_turn, telling_width, telling_within, telling_ends, told_all, told_after, told_bounded}
 use Rattle.order.proofs.Ranks.{lower_free}
 use Rattle.order.proofs.eliminating.count_elimination.Goals as goal
@@ -8,7 +8,9 @@ pub loop-place-init : goal.loop-place-init
 loop-place-init c = telling_starts c.args.order.now.count c.args.near.now c.all_below-free.result c.args.order.now.events c.requires c.all_below-free.ensures
 
 pub loop-place-preserved : goal.loop-place-preserved
-loop-place-preserved c = telling_width _ _ _ _ _ _ _ _ _ _ c.greater-width.ensures
+loop-place-preserved c =
+    let wider : c.max-width.result ≡ max c.loop-place.width c.count-degree.result = search rules in
+    telling_width _ _ _ _ _ _ _ _ _ _ wider
     (telling_turn c.args.order.now.count c.args.near.now c.loop-place.near c.join.new.near c.loop-place.free c.without-free.result c.intersection-lower.result c.args.order.now.events c.loop-place.place _ c.count-degree.result c.pairs_apart-fill.result c.loop-place.width c.loop-place.fill c.loop-place.looks
     c.args.order.now.fits (omega arith) refl c.loop-place.invariant c.join.auto.near c.join.ensures c.intersection-lower.ensures c.without-free.ensures
     c.count-degree.ensures.value c.count-degree.ensures.bounded c.pairs_apart-fill.ensures.value c.pairs_apart-fill.ensures.bounded)

@@ -4,6 +4,3 @@ use Rattle.order.proofs.eliminating.count_elimination.Given as goal
 
 abbrev pub invariant-loop-place : goal.invariant-loop-place
 invariant-loop-place l = Telling l.order.count l.initial.near l.near l.free l.order.events l.place l.width l.fill l.looks
-
-abbrev pub decreases-loop-place : goal.decreases-loop-place
-decreases-loop-place l = l.place

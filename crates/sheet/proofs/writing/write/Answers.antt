@@ -6,7 +6,7 @@ use Rattle.sheet.specs.Written.{sheet_length}
 use Rattle.sheet.proofs.OrderWritten.{arranged_itself}
 use Rattle.sheet.proofs.RoundTrip.{restores, restores_front}
 use Rattle.net.specs.State.{state}
-use Rattle.sheet.specs.Told.{coding}
+use Rattle.sheet.specs.Told.{coding_of}
 use Rattle.sheet.proofs.SheetWritten.{write_short, write_done}
 use Rattle.sheet.proofs.writing.write.Goals as goal
 
@@ -15,15 +15,15 @@ positive n h = omega arith
 
 pub returns-then-place-length : goal.returns-then-place-length
 returns-then-place-length g c =
-    let o = events_count c.args.net.now.order ∙ c.args.net.now.ordered in
+    let o = events_count c.args.net.now.table.order in
     let v = c.bounds_length.ensures.value in
     let n = c.events-n.ensures in
     let t = c.if-place-length.true in
-    record { writing = write_short (coding g.K.Kind.arithmetic g.K.Kind.number g.K.Kind.width g.K.Kind.encoded g.K.Kind.decoded) (state g.K.Kind.amount c.args.net.now) c.args.place.now (λ e. c.if-n-eq0.false (n ∙ e)) (omega arith); back = tt }
+    record { writing = write_short (coding_of g.K.Kind) (state g.K.Kind.amount c.args.net.now) c.args.place.now (λ e. c.if-n-eq0.false (n ∙ e)) (omega arith); back = tt }
 
 pub put_sheet-requires : goal.put_sheet-requires
 put_sheet-requires g c =
-    let o = events_count c.args.net.now.order ∙ c.args.net.now.ordered in
+    let o = events_count c.args.net.now.table.order in
     let v = c.bounds_length.ensures.value in
     let n = c.events-n.ensures in
     let t = c.if-place-length.false in
@@ -31,15 +31,15 @@ put_sheet-requires g c =
 
 pub returns : goal.returns
 returns g c =
-    let o = events_count c.args.net.now.order ∙ c.args.net.now.ordered in
+    let o = events_count c.args.net.now.table.order in
     let v = c.bounds_length.ensures.value in
     let n = c.events-n.ensures in
     let t = c.if-place-length.false in
     let S = state g.K.Kind.amount c.args.net.now in
-    let some : 1 ≤ c.args.net.now.events = positive c.args.net.now.events (λ e. c.if-n-eq0.false (n ∙ e)) in
-    let arranges = subst (λ m. arranged m (events_of c.args.net.now.order) ≡ Ok (events_of c.args.net.now.order)) c.args.net.now.ordered (arranged_itself c.args.net.now.order) in
-    let length = sheet_length (coding g.K.Kind.arithmetic g.K.Kind.number g.K.Kind.width g.K.Kind.encoded g.K.Kind.decoded) S in
+    let some : 1 ≤ c.args.net.now.table.order.count = positive c.args.net.now.table.order.count (λ e. c.if-n-eq0.false (n ∙ e)) in
+    let arranges = arranged_itself c.args.net.now.table.order in
+    let length = sheet_length (coding_of g.K.Kind) S in
     record {
-      writing = write_done (coding g.K.Kind.arithmetic g.K.Kind.number g.K.Kind.width g.K.Kind.encoded g.K.Kind.decoded) (state g.K.Kind.amount c.args.net.now) c.args.place.now c.put_sheet.new.out _ (λ e. c.if-n-eq0.false (n ∙ e)) (omega arith) (omega arith) c.put_sheet.ensures.bytes;
-      back = restores_front (coding g.K.Kind.arithmetic g.K.Kind.number g.K.Kind.width g.K.Kind.encoded g.K.Kind.decoded) S _ c.put_sheet.new.out _ c.put_sheet.ensures.bytes (c.put_sheet.ensures.long ∙ omega arith) (restores (coding g.K.Kind.arithmetic g.K.Kind.number g.K.Kind.width g.K.Kind.encoded g.K.Kind.decoded) S c.put_sheet.ensures.codes some c.args.net.now.few arranges);
+      writing = write_done (coding_of g.K.Kind) (state g.K.Kind.amount c.args.net.now) c.args.place.now c.put_sheet.new.out _ (λ e. c.if-n-eq0.false (n ∙ e)) (omega arith) (omega arith) c.put_sheet.ensures.bytes;
+      back = restores_front (coding_of g.K.Kind) S _ c.put_sheet.new.out _ c.put_sheet.ensures.bytes (c.put_sheet.ensures.long ∙ omega arith) (restores (coding_of g.K.Kind) S c.put_sheet.ensures.codes some c.args.net.now.table.order.fits arranges);
     }

@@ -1,11 +1,6 @@
-use Rattle.std.proofs.Common.{◌<◌, length, set, ap, ◌∙◌, arith, rules}
-use Rattle.table.proofs.Tables.{clear_more}
+use Rattle.std.proofs.Common.{rules}
+use Rattle.table.proofs.Tables.{clear_filled}
 use Rattle.table.proofs.grid.clear.Goals as goal
 
-pub offset_bounds-cells-k : goal.offset_bounds-cells-k
-offset_bounds-cells-k g c = let h : c.loop-k.k < length c.args.cells.now = omega arith in search rules
-
-pub loop-k-preserved : goal.loop-k-preserved
-loop-k-preserved g c =
-    ap (λ xs. set xs c.loop-k.k c.blank.result) c.loop-k.invariant
-    ∙ clear_more c.loop-k.k c.args.cells.now c.blank.result (omega arith) c.blank.ensures
+pub returns : goal.returns
+returns g c = clear_filled c.args.m c.args.cells.now c.fill.new.self c.blank.result c.blank.ensures (c.fill.ensures.after (λ y h. search rules))

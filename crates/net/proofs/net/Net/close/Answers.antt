@@ -1,53 +1,55 @@
 use Rattle.std.proofs.Common.{take, Ok, Err, refl, arith}
+use Rattle.std.proofs.lemmas.Result.{err_from_is_err_and}
 use Rattle.net.specs.declared.mode.Mode.TheVariants.{Open, Closed}
-use Rattle.net.specs.State.{state, cells_of, Sound}
-use Rattle.net.proofs.Closings.{close_schedules, close_short, closes, close_done, close_fails, shown, sound_closed, looks_bounded, counts_not_short, loop_not_short, kept_open}
+use Rattle.net.specs.State.{state}
+use Rattle.net.proofs.Closings.{close_schedules, close_short, closes, close_done, close_fails, sound_closed, still_holds, kept_open}
 use Rattle.net.proofs.net.Net.close.Goals as goal
 
-pub returns-then-place-self : goal.returns-then-place-self
-returns-then-place-self g c = record {
-  outcome = λ s. close_short _ _ _ (omega arith);
-  short = (λ e. omega arith, λ l. refl);
-  schedules = λ s l. absurd (omega arith);
-  shows = λ s. tt;
-  rest = refl;
-  bounded = tt;
-  untouched = λ e. refl;
-  kept = refl;
-  sound = λ s. s;
-  faithful = λ k. k;
-}
+pub returns-then-place-events-clause-outcome : goal.returns-then-place-events-clause-outcome
+returns-then-place-events-clause-outcome g c = λ s. close_short _ _ (state g.K.Kind.amount c.args.self.now) (omega arith)
 
-pub returns-in-Ok : goal.returns-in-Ok
-returns-in-Ok g c =
-    let e = c.in-Ok.ensures in
-    let ends = λ (s : Sound g.K.Kind.arithmetic (state g.K.Kind.amount c.args.self.now)). closes g.K.Kind.arithmetic g.met.K.Kind.lawful g.K.Kind.amount c.args.self.now.events c.args.self.now.order c.args.self.now.mode (cells_of c.args.self.now) c.close.new.self.cells.now c.args.self.now.ordered c.close.new.place (Ok c.in-Ok.field-0) s e.ends in
-    record {
-      outcome = λ s. close_done g.K.Kind.arithmetic g.met.K.Kind.lawful g.K.Kind.amount c.args.self.now.events c.args.self.now.order c.args.self.now.mode (cells_of c.args.self.now) c.close.new.self.cells.now c.args.self.now.ordered _ c.counts.result (omega arith) e.same (ends s).0 c.counts.ensures.value;
-      short = (counts_not_short c.counts.result, λ l. absurd (omega arith));
-      schedules = λ s l. close_schedules g.K.Kind.arithmetic g.met.K.Kind.lawful g.K.Kind.minus g.met.K.Kind.inverse _ (state g.K.Kind.amount c.args.self.now) _ _ s l (close_done g.K.Kind.arithmetic g.met.K.Kind.lawful g.K.Kind.amount c.args.self.now.events c.args.self.now.order c.args.self.now.mode (cells_of c.args.self.now) c.close.new.self.cells.now c.args.self.now.ordered _ c.counts.result (omega arith) e.same (ends s).0 c.counts.ensures.value);
-      shows = λ s. tt;
-      rest = e.rest;
-      bounded = looks_bounded g.K.Kind.arithmetic g.met.K.Kind.lawful g.K.Kind.amount c.args.self.now.events c.args.self.now.order c.args.self.now.mode (cells_of c.args.self.now) c.close.new.self.cells.now c.args.self.now.ordered c.counts.result.looks c.counts.result.width c.counts.ensures.bounded;
-      untouched = counts_not_short c.counts.result;
-      kept = e.long;
-      sound = sound_closed g.K.Kind.arithmetic g.met.K.Kind.lawful g.K.Kind.amount c.args.self.now.events c.args.self.now.order c.args.self.now.mode (cells_of c.args.self.now) c.close.new.self.cells.now c.args.self.now.ordered Closed e.same;
-      faithful = λ k. record { sound = sound_closed g.K.Kind.arithmetic g.met.K.Kind.lawful g.K.Kind.amount c.args.self.now.events c.args.self.now.order c.args.self.now.mode (cells_of c.args.self.now) c.close.new.self.cells.now c.args.self.now.ordered Closed e.same k.sound; holds = λ _. (ends k.sound).1 };
-    }
+-- the bounds contradict
+pub returns-in_err-close_cells-clause-outcome : goal.returns-in_err-close_cells-clause-outcome
+returns-in_err-close_cells-clause-outcome g c =
+    let p = err_from_is_err_and c.from_residual.result c.from_residual.ensures.1 in
+    let e = c.in_err-close_cells.ensures in
+    let why = c.in_err-close_cells.field-0.0 in
+    let t = c.args.self.now.table in
+    rw (p.1, p.2) (λ s. close_fails g.K.Kind.arithmetic g.met.K.Kind.lawful g.K.Kind.amount c.args.self.now.mode t c.close_cells.new.table e.kept e.same _ (take why.shown c.close_cells.new.place) (omega arith) s
+    (closes g.K.Kind.arithmetic g.met.K.Kind.lawful g.K.Kind.amount c.args.self.now.mode t c.close_cells.new.table e.kept e.same c.close_cells.new.place (Err why) s e.ends))
 
-pub returns-in-Err : goal.returns-in-Err
-returns-in-Err g c =
-    let e = c.in-Err.ensures in
-    let loop = λ (s : Sound g.K.Kind.arithmetic (state g.K.Kind.amount c.args.self.now)). closes g.K.Kind.arithmetic g.met.K.Kind.lawful g.K.Kind.amount c.args.self.now.events c.args.self.now.order c.args.self.now.mode (cells_of c.args.self.now) c.close.new.self.cells.now c.args.self.now.ordered c.close.new.place (Err c.in-Err.events) s e.ends in
-    record {
-      outcome = λ s. close_fails g.K.Kind.arithmetic g.met.K.Kind.lawful g.K.Kind.amount c.args.self.now.events c.args.self.now.order c.args.self.now.mode (cells_of c.args.self.now) c.close.new.self.cells.now c.args.self.now.ordered _ (take c.in-Err.events c.close.new.place) (omega arith) s e.same (loop s);
-      short = (loop_not_short, λ l. absurd (omega arith));
-      schedules = λ s l. close_schedules g.K.Kind.arithmetic g.met.K.Kind.lawful g.K.Kind.minus g.met.K.Kind.inverse _ (state g.K.Kind.amount c.args.self.now) _ _ s l (close_fails g.K.Kind.arithmetic g.met.K.Kind.lawful g.K.Kind.amount c.args.self.now.events c.args.self.now.order c.args.self.now.mode (cells_of c.args.self.now) c.close.new.self.cells.now c.args.self.now.ordered _ (take c.in-Err.events c.close.new.place) (omega arith) s e.same (loop s));
-      shows = λ s. shown g.K.Kind.arithmetic g.met.K.Kind.lawful g.K.Kind.amount c.args.self.now.events c.args.self.now.order c.args.self.now.mode (cells_of c.args.self.now) c.close.new.self.cells.now c.args.self.now.ordered (take c.in-Err.events c.close.new.place) (loop s);
-      rest = (omega (arith, e.rest.0), e.rest.1);
-      bounded = tt;
-      untouched = loop_not_short;
-      kept = e.long;
-      sound = sound_closed g.K.Kind.arithmetic g.met.K.Kind.lawful g.K.Kind.amount c.args.self.now.events c.args.self.now.order c.args.self.now.mode (cells_of c.args.self.now) c.close.new.self.cells.now c.args.self.now.ordered Open e.same;
-      faithful = λ k. kept_open g.K.Kind.arithmetic g.K.Kind.amount _ (sound_closed g.K.Kind.arithmetic g.met.K.Kind.lawful g.K.Kind.amount c.args.self.now.events c.args.self.now.order c.args.self.now.mode (cells_of c.args.self.now) c.close.new.self.cells.now c.args.self.now.ordered Open e.same k.sound) refl;
-    }
+pub returns-in_err-close_cells-clause-schedules : goal.returns-in_err-close_cells-clause-schedules
+returns-in_err-close_cells-clause-schedules g c = λ s l.
+    close_schedules g.K.Kind.arithmetic g.met.K.Kind.lawful g.K.Kind.minus g.met.K.Kind.inverse _ (state g.K.Kind.amount c.args.self.now) _ _ s l (returns-in_err-close_cells-clause-outcome g c s)
+
+pub returns-in_err-close_cells-clause-sound : goal.returns-in_err-close_cells-clause-sound
+returns-in_err-close_cells-clause-sound g c =
+    let e = c.in_err-close_cells.ensures in
+    sound_closed g.K.Kind.arithmetic g.met.K.Kind.lawful g.K.Kind.amount c.args.self.now.mode c.args.self.now.table c.close_cells.new.table e.kept e.same Open
+
+pub returns-in_err-close_cells-clause-faithful : goal.returns-in_err-close_cells-clause-faithful
+returns-in_err-close_cells-clause-faithful g c = λ k. kept_open g.K.Kind.arithmetic g.K.Kind.amount _ (returns-in_err-close_cells-clause-sound g c k.sound) refl
+
+-- they do not
+pub returns-clause-outcome : goal.returns-clause-outcome
+returns-clause-outcome g c = λ s.
+    let e = c.in_ok-close_cells.ensures in
+    let t = c.args.self.now.table in
+    let calm = closes g.K.Kind.arithmetic g.met.K.Kind.lawful g.K.Kind.amount c.args.self.now.mode t c.close_cells.new.table e.kept e.same c.close_cells.new.place (Ok tt) s e.ends in
+    close_done g.K.Kind.arithmetic g.met.K.Kind.lawful g.K.Kind.amount c.args.self.now.mode t c.close_cells.new.table e.kept e.same _ c.counts.result (omega arith) calm.0 c.counts.ensures.value
+
+pub returns-clause-schedules : goal.returns-clause-schedules
+returns-clause-schedules g c = λ s l.
+    close_schedules g.K.Kind.arithmetic g.met.K.Kind.lawful g.K.Kind.minus g.met.K.Kind.inverse _ (state g.K.Kind.amount c.args.self.now) _ _ s l (returns-clause-outcome g c s)
+
+pub returns-clause-sound : goal.returns-clause-sound
+returns-clause-sound g c =
+    let e = c.in_ok-close_cells.ensures in
+    sound_closed g.K.Kind.arithmetic g.met.K.Kind.lawful g.K.Kind.amount c.args.self.now.mode c.args.self.now.table c.close_cells.new.table e.kept e.same Closed
+
+pub returns-clause-faithful : goal.returns-clause-faithful
+returns-clause-faithful g c = λ k.
+    let e = c.in_ok-close_cells.ensures in
+    let t = c.args.self.now.table in
+    let calm = closes g.K.Kind.arithmetic g.met.K.Kind.lawful g.K.Kind.amount c.args.self.now.mode t c.close_cells.new.table e.kept e.same c.close_cells.new.place (Ok tt) k.sound e.ends in
+    record { sound = returns-clause-sound g c k.sound; holds = λ _. still_holds g.K.Kind.arithmetic g.met.K.Kind.lawful g.K.Kind.amount c.args.self.now.mode t c.close_cells.new.table e.kept e.same calm.1 }

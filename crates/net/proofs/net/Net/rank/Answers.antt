@@ -1,16 +1,10 @@
-use Rattle.std.proofs.Common.{refl}
+use Rattle.std.proofs.Common.{ap, ◌∙◌}
+use Rattle.net.specs.State.{accepted, state}
+use Rattle.net.proofs.States.{stated_ordered}
 use Rattle.net.proofs.Outcomes.{rank_done}
-use Rattle.net.proofs.Closings.{kept_open}
-use Rattle.net.proofs.Soundness.{sound_ranked, sound_after}
 use Rattle.net.proofs.net.Net.rank.Goals as goal
 
-pub returns : goal.returns
-returns g c =
-    let done = rank_done _ _ c.by_fewest-self.ensures.value in
-    record {
-      outcome = done;
-      ruled = c.by_fewest-self.ensures.ruled;
-      kept = refl;
-      sound = λ s. sound_after g.K.Kind.arithmetic _ _ done (sound_ranked g.K.Kind.arithmetic _ s);
-      faithful = λ k. kept_open g.K.Kind.arithmetic g.K.Kind.amount _ (sound_after g.K.Kind.arithmetic _ _ done (sound_ranked g.K.Kind.arithmetic _ k.sound)) refl;
-    }
+pub returns-clause-outcome : goal.returns-clause-outcome
+returns-clause-outcome g c =
+    ap accepted (stated_ordered g.K.Kind.amount c.args.self.now.table c.arrange.new.self c.args.self.now.mode c.by_fewest-order.result c.by_fewest-order.ensures.sized c.arrange.ensures.cells c.arrange.ensures.order)
+    ∙ rank_done (state g.K.Kind.amount c.args.self.now) _ c.by_fewest-order.ensures.value

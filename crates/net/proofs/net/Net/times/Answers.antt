@@ -1,18 +1,18 @@
-use Rattle.std.proofs.Common.{refl, arith}
-use Rattle.net.specs.State.{cells_of}
-use Rattle.net.proofs.Askings.{times_open, times_placed, placed_short, placed_long, timed, planned}
+use Rattle.std.proofs.Common.{arith, rules}
+use Rattle.net.proofs.Askings.{times_open, times_placed, placed_short, placed_long, timed, planned, not_open}
 use Rattle.net.proofs.net.Net.times.Goals as goal
 
-pub returns-in-Open : goal.returns-in-Open
-returns-in-Open g c = record { refused = times_open _ _ c.in-Open.is; rest = refl; told = λ k. refl; schedule = λ k. tt }
+pub returns-then-eq-clause-refused : goal.returns-then-eq-clause-refused
+returns-then-eq-clause-refused g c = times_open _ _ (search rules)
 
-pub returns-then-place-self : goal.returns-then-place-self
-returns-then-place-self g c = record { refused = times_placed _ _ _ c.in_default.is (placed_short _ _ (omega arith)); rest = refl; told = λ k. refl; schedule = λ k. tt }
+pub returns-then-place-events-clause-refused : goal.returns-then-place-events-clause-refused
+returns-then-place-events-clause-refused g c = times_placed _ _ _ (search (rules, not_open)) (placed_short _ _ (omega arith))
 
-pub returns : goal.returns
-returns g c = record {
-  refused = times_placed _ _ _ c.in_default.is (placed_long _ _ (omega arith));
-  rest = c.write_times.ensures.rest;
-  told = λ k. (timed g.K.Kind.arithmetic g.met.K.Kind.lawful g.K.Kind.amount c.args.self.now.events c.args.self.now.order c.args.self.now.mode (cells_of c.args.self.now) c.args.self.now.ordered c.write_times.new.place (k.holds c.in_default.is) k.sound c.write_times.ensures.times, c.write_times.ensures.rest);
-  schedule = λ k. planned g.K.Kind.arithmetic g.met.K.Kind.lawful g.K.Kind.amount c.args.self.now.events c.args.self.now.order c.args.self.now.mode (cells_of c.args.self.now) c.args.self.now.ordered c.write_times.new.place (k.holds c.in_default.is) k.sound c.write_times.ensures.times;
-}
+pub returns-clause-refused : goal.returns-clause-refused
+returns-clause-refused g c = times_placed _ _ _ (search (rules, not_open)) (placed_long _ _ (omega arith))
+
+pub returns-clause-told : goal.returns-clause-told
+returns-clause-told g c = λ k. (timed g.K.Kind.arithmetic g.met.K.Kind.lawful g.K.Kind.amount c.args.self.now k (search (rules, not_open)) c.write_times.new.place c.write_times.ensures.times, c.write_times.ensures.rest)
+
+pub returns-clause-schedule : goal.returns-clause-schedule
+returns-clause-schedule g c = λ k. planned g.K.Kind.arithmetic g.met.K.Kind.lawful g.K.Kind.amount c.args.self.now k (search (rules, not_open)) c.write_times.new.place c.write_times.ensures.times

@@ -1,16 +1,23 @@
--- One event more at its own place.
-use Rattle.std.proofs.Common.{◌<◌, ◌≢◌, length, arith, length-set, get_or-set_other, get_or-set_same, below_more}
+-- Each number at its own place.
+use Rattle.std.proofs.Common.{◌≡◌, ℕ, ◌<◌, ◌∙◌, ap, get_or, arith, rules}
 use Rattle.order.proofs.Stretches.{stretch_numbers}
 use Rattle.order.proofs.event_order.EventOrder.identity.Goals as goal
+use Rattle.order.proofs.event_order.EventOrder.identity.Goals.{After-from_fn-places}
 
-pub loop-k-preserved : goal.loop-k-preserved
-loop-k-preserved c =
-    let i = c.loop-k.invariant in (
-      simp length-set i.0,
-      simp length-set i.1,
-      below_more _ _ (λ q h. let ne : q ≢ c.loop-k.k = omega arith in rw get_or-set_other (i.2 q h)) (let lt : c.loop-k.k < length c.loop-k.ranks = omega arith in rw get_or-set_same),
-      below_more _ _ (λ q h. let ne : q ≢ c.loop-k.k = omega arith in rw get_or-set_other (i.3 q h)) (let lt : c.loop-k.k < length c.loop-k.events = omega arith in rw get_or-set_same),
-    )
+own_place : (c : After-from_fn-places) (q : ℕ) → q < 128 → get_or c.from_fn-places.result q 0 ≡ q
+own_place c q l = let k = c.from_fn-places.ensures.items.at q 0 l in search rules
+
+pub invariant_of-result : goal.invariant_of-result
+invariant_of-result c =
+    let n = c.args.n in
+    let at : (q : ℕ) → q < n → get_or c.from_fn-places.result q 0 ≡ q = λ q l. own_place c q (omega (arith, c.requires)) in
+    record {
+      fits = c.requires;
+      events_below = λ q l. omega (arith, at q l);
+      ranks_below = λ q l. omega (arith, at q l);
+      there = λ q l. ap (λ x. get_or c.from_fn-places.result x 0) (at q l) ∙ at q l;
+      back = λ q l. ap (λ x. get_or c.from_fn-places.result x 0) (at q l) ∙ at q l;
+    }
 
 pub returns : goal.returns
-returns c = stretch_numbers c.loop-k.events 0 c.args.n (λ q a b. c.loop-k.invariant.3 q (omega arith))
+returns c = stretch_numbers c.from_fn-places.result 0 c.args.n (λ q a b. own_place (goal.at.returns c).After-from_fn-places q (omega (arith, c.requires)))

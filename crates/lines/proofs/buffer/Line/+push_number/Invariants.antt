@@ -1,5 +1,0 @@
--- The number falls with each digit.
-use Rattle.lines.proofs.buffer.Line.+push_number.Given as goal
-
-abbrev pub decreases-push_number : goal.decreases-push_number
-decreases-push_number l = l.number

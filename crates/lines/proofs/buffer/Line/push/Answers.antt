@@ -1,7 +1,0 @@
--- A byte more.
-use Rattle.std.proofs.Common.{rules}
-use Rattle.std.proofs.lemmas.List.{take_more_set}
-use Rattle.lines.proofs.buffer.Line.push.Goals as goal
-
-pub returns : goal.returns
-returns c = search (rules, take_more_set)

@@ -1,0 +1,16 @@
+// The lesser of two bounds that may be none.
+ghost use Rattle.std.specs.Prelude.{◌≡◌};
+ghost use Rattle.table.specs.Cells.{amount_of};
+ghost use Rattle.walks.specs.Least.{lesser};
+
+use kinds::kind::Kind;
+
+// The lesser of the two, where there are two; the first among equals.
+pub fn lesser<K: Kind>(first: Option<K>, second: Option<K>) -> Option<K>
+    ensures { amount_of K.Kind.amount result ≡ lesser K.Kind.arithmetic (amount_of K.Kind.amount first) (amount_of K.Kind.amount second) }
+{
+    let (Some(a), Some(b)) = (first, second) else {
+        return first.or(second);
+    };
+    if b.compare(a).is_lt() { second } else { first }
+}
