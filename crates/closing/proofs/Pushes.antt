@@ -1,33 +1,31 @@
 -- A row of events that keeps each once.
-use Rattle.std.proofs.Common.{◌≡◌, ℕ, suc, ◌+◌, ◌<◌, ◌≤◌, ◌⊎◌, Bool, cond, not, eqb, ltb, Some, None, Option, List, [], ◌∷◌, ◌++◌, length, take, set, true, false, sym, refl, ap, ◌∙◌, inl, inr, arith, length-append, length-take-le, take-take}
+use Rattle.std.proofs.Common.{◌≡◌, ℕ, zero, suc, ◌+◌, ◌<◌, ◌≤◌, ◌⊎◌, List, [], ◌∷◌, ◌++◌, length, get_or, take, set, sym, refl, ap, ◌∙◌, inl, inr, add-one, arith, length-take-le, get_or-take, take-take, take-suc-set}
 use native.Mathlib.Decide.{ℕ_discrete}
-use Rattle.std.specs.List.{position_or_len, before_first}
-use Rattle.std.specs.Option.{unwrap_or}
-use Rattle.std.proofs.lemmas.Bool.{eq-eqb, ne_eqb, ltb-false}
-use Rattle.std.proofs.lemmas.List.{take_more_set}
-use Rattle.std.proofs.lemmas.List.Sums.{prefix_len-le-length}
-use Rattle.std.proofs.lemmas.List.Folds.{length-prefix_len}
 use Rattle.elimination.specs.Simple.{Member, Distinct}
 use Rattle.elimination.proofs.Short.{pigeons}
-use Rattle.closing.specs.declared.trail.Trail.{Trail}
 use Rattle.closing.specs.Trace.{Names, choose, pushed}
-use Rattle.closing.specs.Trails.{written}
 
--- what stands before v, and then v
-front : (x v : ℕ) (xs : List ℕ) → Bool → List ℕ
-front x v xs b = take (cond (not b) (1 + position_or_len (λ y. eqb y v) xs) 0) (x ∷ xs) ++ (v ∷ [])
+pub choose_yes : {P : Type 0} (d : Dec P) (x y : List ℕ) → P → choose d x y ≡ x
+choose_yes (yes p) x y h = refl
+choose_yes (no p) x y h = absurd (p h)
 
-pushed_is : (xs : List ℕ) (v : ℕ) → pushed xs v ≡ before_first (λ x. eqb x v) xs ++ (v ∷ [])
-unfolding front
-pushed_is [] v = refl
-pushed_is (x ∷ xs) v = go (ℕ_discrete x v) (pushed_is xs v)
-  where
-    one : (n : ℕ) → 1 + n ≡ suc n
-    one n = omega arith
+pub choose_no : {P : Type 0} (d : Dec P) (x y : List ℕ) → ¬ P → choose d x y ≡ y
+choose_no (yes p) x y h = absurd (h p)
+choose_no (no p) x y h = refl
 
-    go : (d : Dec (x ≡ v)) → pushed xs v ≡ before_first (λ y. eqb y v) xs ++ (v ∷ []) → choose d (x ∷ []) (x ∷ pushed xs v) ≡ before_first (λ y. eqb y v) (x ∷ xs) ++ (v ∷ [])
-    go (yes e) h = ap (λ t. t ∷ []) e ∙ sym (ap (front x v xs) (eq-eqb x v e))
-    go (no d) h = ap (λ t. x ∷ t) h ∙ sym (ap (front x v xs) (ne_eqb x v d) ∙ ap (λ n. take n (x ∷ xs) ++ (v ∷ [])) (one (position_or_len (λ y. eqb y v) xs)))
+pub pushed_found : (xs : List ℕ) (p v : ℕ) → p < length xs → get_or xs p 0 ≡ v → ((q : ℕ) → q < p → get_or xs q 0 ≡ v → ⊥) → pushed xs v ≡ take (suc p) xs
+pushed_found [] p v h e f = absurd (omega arith)
+pushed_found (x ∷ xs) zero v h e f = choose_yes (ℕ_discrete x v) _ _ e
+pushed_found (x ∷ xs) (suc p) v h e f = choose_no (ℕ_discrete x v) _ _ (f 0 (omega arith)) ∙ ap (λ (t : List ℕ). x ∷ t) (pushed_found xs p v (omega arith) e (λ q l. f (suc q) (omega arith)))
+
+pub pushed_new : (xs : List ℕ) (v : ℕ) → ((q : ℕ) → q < length xs → get_or xs q 0 ≡ v → ⊥) → pushed xs v ≡ xs ++ (v ∷ [])
+pushed_new [] v f = refl
+pushed_new (x ∷ xs) v f = choose_no (ℕ_discrete x v) _ _ (f 0 (omega arith)) ∙ ap (λ (t : List ℕ). x ∷ t) (pushed_new xs v (λ q l. f (suc q) (omega arith)))
+
+no_member : (xs : List ℕ) (v : ℕ) → ((q : ℕ) → q < length xs → get_or xs q 0 ≡ v → ⊥) → ¬ (Member v xs)
+no_member [] v f m = m
+no_member (x ∷ xs) v f (inl e) = f 0 (omega arith) (sym e)
+no_member (x ∷ xs) v f (inr m) = no_member xs v (λ q l. f (suc q) (omega arith)) m
 
 member_pushed : (xs : List ℕ) (v z : ℕ) → Member z (pushed xs v) → Member z xs ⊎ (z ≡ v)
 member_pushed [] v z (inl e) = inr e
@@ -54,32 +52,22 @@ names_pushed n xs v h s = record {
   below = λ x m. elim (member_pushed xs v x m) [ inl t ↦ s.below x t | inr e ↦ rw e h ];
 }
 
--- at most n events
-pub few_names : (n : ℕ) (xs : List ℕ) → Names n xs → length xs ≤ n
-few_names n xs s = pigeons n xs s.once s.below
+-- there is room for one more
+pub room : (n : ℕ) (xs : List ℕ) (v : ℕ) → v < n → Names n xs → ((q : ℕ) → q < length xs → get_or xs q 0 ≡ v → ⊥) → length xs < n
+room n xs v h s f = pigeons n (v ∷ xs) (no_member xs v f, s.once) (λ x m. elim m [ inl e ↦ rw e h | inr t ↦ s.below x t ])
 
--- where a search stops, that goes on to the end where nothing is found
-pub stopped : (k n : ℕ) → k ≤ n → (r : Option ℕ) → r ≡ cond (ltb k n) (Some k) None → unwrap_or r n ≡ k
-stopped k n h r e = ap (λ t. unwrap_or t n) e ∙ go (ltb k n) refl
-  where
-    go : (b : Bool) → ltb k n ≡ b → unwrap_or (cond b (Some k) None) n ≡ k
-    go true t = refl
-    go false t = let l = ltb-false k n t in omega arith
+-- as the loop has it: the first len of out
+module _ (n len v : ℕ) (out : List ℕ) (held : len ≤ length out) where
+  none_of : ((q : ℕ) → q < len → get_or out q 0 ≡ v → ⊥) → (q : ℕ) → q < length (take len out) → get_or (take len out) q 0 ≡ v → ⊥
+  none_of f q h e = let l = length-take-le len out held in let k : q < len = omega arith in f q k (sym (get_or-take len out q 0 k) ∙ e)
 
--- v is written where it stands in the walk, or behind it
-module _ {K : Type 0} (t : Trail K) (v p : ℕ) (at : p ≡ position_or_len (λ x. eqb x v) (written t)) (below : v < t.table.now.order.count) where
-  pub has_room : p < t.table.now.order.count
-  has_room =
-      let n = t.table.now.order.count in
-      let few = few_names n _ (names_pushed n (written t) v below t.names) in
-      let long = ap length (pushed_is (written t) v) ∙ length-append (before_first (λ x. eqb x v) (written t)) (v ∷ []) in
-      omega (arith, few, long, length-prefix_len (λ x. not (eqb x v)) (written t))
+  pub has_room : v < n → Names n (take len out) → ((q : ℕ) → q < len → get_or out q 0 ≡ v → ⊥) → len < n
+  has_room h s f = let r = room n (take len out) v h s (none_of f) in let l = length-take-le len out held in omega arith
 
-  pub goes_on : length t.ranks ≡ 128 → take (p + 1) (set t.ranks p v) ≡ pushed (written t) v
-  goes_on long =
-      let room = has_room in
-      let l = length-take-le t.len t.ranks t.held in
-      let m = prefix_len-le-length (λ x. not (eqb x v)) (written t) in
-      take_more_set t.ranks p v (omega (arith, room, long, t.table.now.order.fits))
-      ∙ ap (λ xs. xs ++ (v ∷ [])) (sym (take-take p t.len t.ranks (omega (arith, at, l, m))) ∙ ap (λ k. take k (written t)) at)
-      ∙ sym (pushed_is (written t) v)
+  pub at_old : (p : ℕ) → p < len → get_or out p 0 ≡ v → ((q : ℕ) → q < p → get_or out q 0 ≡ v → ⊥) → take (p + 1) out ≡ pushed (take len out) v
+  at_old p h e f =
+      let l = length-take-le len out held in
+      ap (λ (t : ℕ). take t out) (add-one p) ∙ sym (take-take (suc p) len out (omega arith)) ∙ sym (pushed_found (take len out) p v (omega arith) (get_or-take len out p 0 h ∙ e) (λ q k t. f q k (sym (get_or-take len out q 0 (omega arith)) ∙ t)))
+
+  pub at_new : len < length out → ((q : ℕ) → q < len → get_or out q 0 ≡ v → ⊥) → take (len + 1) (set out len v) ≡ pushed (take len out) v
+  at_new h f = ap (λ (t : ℕ). take t (set out len v)) (add-one len) ∙ take-suc-set out len v h ∙ sym (pushed_new (take len out) v (none_of f))

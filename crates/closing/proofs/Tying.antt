@@ -1,5 +1,5 @@
 -- From ranks to events, and from the theory of elimination to walks and distances.
-use Rattle.std.proofs.Common.{◌≡◌, ℕ, ◌+◌, ◌*◌, ◌^◌, ◌<◌, ◌≤◌, Bool, true, false, ◌&&◌, ltb, ◌≢◌, ◌⊎◌, List, [], ◌∷◌, ◌++◌, map, take, ℤ, Some, None, Option, sym, refl, ap, ◌∙◌, subst, ap₂, inl, inr, arith}
+use Rattle.std.proofs.Common.{◌≡◌, ℕ, ◌+◌, ◌*◌, ◌^◌, ◌<◌, ◌≤◌, Bool, true, false, ◌&&◌, ltb, ◌≢◌, ◌⊎◌, List, [], ◌∷◌, ◌++◌, map, length, take, ℤ, Some, None, Option, sym, refl, ap, ◌∙◌, subst, ap₂, inl, inr, arith, length-take-le}
 use mathlib.Core.Path.{fun_ext}
 use Rattle.std.proofs.lemmas.Bool.{and_parts, cases_eq, cases_lt, cases_Bool, ltb-true, lt-ltb}
 use Rattle.kinds.specs.Arithmetic.{Arithmetic, Amount, AtMost, Lawful}
@@ -22,6 +22,7 @@ use Rattle.elimination.specs.Simple.Row.{stop, on as along}
 use Rattle.elimination.specs.Held.{Held, nil, plus, le}
 use Rattle.elimination.proofs.Laws.{same, amounts, measured}
 use Rattle.elimination.proofs.Sized.{swept_small, into_small, out_small}
+use Rattle.elimination.proofs.Short.{pigeons}
 use Rattle.eliminator.specs.Views.{Grid, event_at, rank_at, view}
 use Rattle.eliminator.specs.Begun.{Begun}
 use Rattle.eliminator.specs.State.{Forced, SameForce, Ready, Traced, Stage, Failed}
@@ -263,6 +264,10 @@ ready {K} amount order xs us b apart sized =
         let f = tie.to i i (amount w) (p, p, (w, e, refl)) in
         let g = apart (event_at order i) in
         cc (f, g)
+
+-- at most n events
+pub few_names : (n m : ℕ) (out : List ℕ) → m ≤ length out → Names n (take m out) → m ≤ n
+few_names n m out h names = let l = length-take-le m out h in let p = pigeons n (take m out) names.once names.below in omega arith
 
 -- what the sweep left of the elimination
 pub traced_same : {K : Type 0} {A : Arithmetic} {amount : K → List ℤ} (n lo : ℕ) (xs ys : Grid K) → SameWork n xs ys → Traced A amount n lo xs → Traced A amount n lo ys

@@ -1,4 +1,3 @@
 pub mod Trace
-pub mod Trails
 pub mod Walked
 pub mod Closed

@@ -5,6 +5,7 @@ ghost use Rattle.eliminator.specs.Views.{Same};
 ghost use Rattle.closing.specs.Closed.{Ends, Untouched};
 
 use super::contradiction::show_loop;
+use super::trail::tell;
 use eliminator::eliminate::eliminate;
 use eliminator::start::start;
 use kinds::kind::Kind;
@@ -30,7 +31,12 @@ pub fn close_cells<K: Kind>(table: &mut Table<'_, K>, place: &mut [u8]) -> Resul
     let mut near = [Marks::none(); 128];
     start(table, &mut near);
     if let Err(failing) = eliminate(table, &mut near) {
-        let shown = show_loop(table, failing.low, failing.high).tell(place);
+        let mut ranks = [0u8; 128];
+        // the ordering first, and the cells whole: so the checker lends both parts of a table
+        let order = &table.order;
+        let cells = &mut *table.cells;
+        let shown = show_loop(cells, order, failing.low, failing.high, &mut ranks);
+        tell(order, &ranks, shown, place);
         return Err(Contradiction { shown });
     }
     sweep(table, &near);

@@ -1,27 +1,36 @@
 // The loop behind the pair at which the elimination failed.
-ghost use Rattle.std.specs.Prelude.{◌≡◌, ◌<◌};
-ghost use Rattle.eliminator.specs.Views.{seen};
-ghost use Rattle.closing.specs.Trace.{Shows};
-ghost use Rattle.closing.specs.Trails.{written};
+ghost use Rattle.std.specs.Prelude.{◌≡◌, ℕ, ◌*◌, ◌<◌, ◌≤◌, length, take};
+ghost use Rattle.eliminator.specs.Views.{view};
+ghost use Rattle.closing.specs.Trace.{Names, Shows};
 
-use super::trail::{Trail, split_at};
+use super::trail::{expand, split_at};
 use kinds::kind::Kind;
-use table::lent::Table;
+use order::event_order::EventOrder;
+use table::cell::Cell;
 
-// The walk from rank i to rank k, and then back to i, without i again.
-pub fn show_loop<'a, 't, K: Kind>(table: &'a Table<'t, K>, i: usize, k: usize) -> Trail<'a, 't, K>
+// The ranks of the walk from i to k, and then of the walk back to i, without i again.
+pub fn show_loop<K: Kind>(
+    cells: &[Cell<K>],
+    order: &EventOrder,
+    i: usize,
+    k: usize,
+    out: &mut [u8],
+) -> usize
+    requires fits { order.now.count * order.now.count ≤ length cells.now }
     requires lower { i < k }
-    requires within { k < table.now.order.count }
-    ensures table { result.table.now ≡ table.now }
-    ensures shows { Shows K.Kind.arithmetic K.Kind.amount table.now.order.count (seen table.now) i k (written result) }
+    requires within { k < order.now.count }
+    requires room { order.now.count ≤ length out.old }
+    ensures held { result ≤ length out.new }
+    ensures names { Names order.now.count (take result out.new) }
+    ensures shows { Shows K.Kind.arithmetic K.Kind.amount order.now.count (view order.now cells.now) i k (take result out.new) }
 {
-    let mut trail = Trail::from(table, i);
-    trail.expand(i, k);
+    out[0] = i as u8;
+    let mut len = expand(cells, order, i, k, out, 1);
     let mut x = k;
     // `while`: the next question begins at the rank that was found
-    while let Some(v) = split_at(table, x, i) {
-        trail.expand(x, v);
+    while let Some(v) = split_at(cells, order, x, i) {
+        len = expand(cells, order, x, v, out, len);
         x = v;
     }
-    trail
+    len
 }

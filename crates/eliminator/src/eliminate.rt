@@ -7,7 +7,7 @@ ghost use Rattle.eliminator.specs.Members.{Apart, Others};
 ghost use Rattle.eliminator.specs.Steps.{NoShorter, Shorter, OneCell, RowPart, Part, Lower, Near, Joined};
 ghost use Rattle.eliminator.specs.State.{SameForce, Falls, Bears, FirstFailing, Outcome};
 
-use super::members::list;
+use super::members::listed;
 use super::ranks::{at_ranks, put_ranks};
 use kinds::kind::Kind;
 use marks::set::Marks;
@@ -43,15 +43,18 @@ fn relax_cell<K: Kind>(table: &mut Table<'_, K>, k: usize, i: usize, j: usize, f
     ensures kept { Same table.old table.new }
     ensures one { OneCell K.Kind.arithmetic K.Kind.amount table.old.order.count k i j (seen table.old) (seen table.new) }
 {
-    let old = at_ranks(table, i, j);
-    let back = at_ranks(table, k, j);
+    // the ordering first, and the cells whole: so the checker lends both parts of a table
+    let order = &table.order;
+    let cells = &mut *table.cells;
+    let old = at_ranks(cells, order, i, j);
+    let back = at_ranks(cells, order, k, j);
     if let Some(s) = shorter(front, back.worked, old.worked) {
         let new = Cell {
             worked: Some(s),
             via: Some(k as u8),
             ..old
         };
-        put_ranks(table, i, j, new);
+        put_ranks(cells, order, i, j, new);
     }
 }
 
@@ -64,7 +67,10 @@ fn relax_row<K: Kind>(table: &mut Table<'_, K>, k: usize, i: usize, ranks: &[u8]
     ensures kept { Same table.old table.new }
     ensures part { RowPart K.Kind.arithmetic K.Kind.amount table.old.order.count k i (Others ranks.now (length ranks.now) i) (seen table.old) (seen table.new) }
 {
-    let front = at_ranks(table, i, k).worked;
+    // lent as in `relax_cell`
+    let order = &table.order;
+    let cells = &mut *table.cells;
+    let front = at_ranks(cells, order, i, k).worked;
     for rank in ranks {
         let j = *rank as usize;
         if j != i {
@@ -83,7 +89,7 @@ fn take_out<K: Kind>(table: &mut Table<'_, K>, near: &mut [Marks], k: usize, min
     ensures joined { Joined (λ q. has mine q ≡ true) mine near.old near.new }
 {
     let mut place = [0u8; 128];
-    let ranks = list(mine, &mut place);
+    let ranks = listed(mine, &mut place);
     for i in mine.members() {
         relax_row(table, k, i, ranks);
         // joined in the same visit: `join` of the ordering would go through the members once more
@@ -112,8 +118,8 @@ fn fails<K: Kind>(table: &Table<'_, K>, i: usize, k: usize) -> bool
     ensures no { (T result → ⊥) → Bears K.Kind.arithmetic K.Kind.amount (seen table.now i k).worked (seen table.now k i).worked }
 {
     // two reads, as in `touching`: a function that tells both cells would be no shorter
-    let into = at_ranks(table, i, k);
-    let out = at_ranks(table, k, i);
+    let into = at_ranks(table.cells, &table.order, i, k);
+    let out = at_ranks(table.cells, &table.order, k, i);
     falls(into.worked, out.worked)
 }
 

@@ -1,29 +1,44 @@
 // Cells by the ranks of their events, counted from 0.
-ghost use Rattle.std.specs.Prelude.{◌≡◌, ◌<◌};
-ghost use Rattle.eliminator.specs.Views.{Same, Written, seen};
+ghost use Rattle.std.specs.Prelude.{◌≡◌, ◌*◌, ◌<◌, ◌≤◌, length};
+ghost use Rattle.eliminator.specs.Views.{view, Written};
 
 use kinds::kind::Kind;
+use order::event_order::EventOrder;
 use table::cell::Cell;
-use table::lent::Table;
+use table::grid::{at, put};
 
-pub fn at_ranks<K: Kind>(table: &Table<'_, K>, r: usize, s: usize) -> Cell<K>
-    requires row { r < table.now.order.count }
-    requires column { s < table.now.order.count }
-    ensures { result ≡ seen table.now r s }
+pub fn at_ranks<K: Kind>(cells: &[Cell<K>], order: &EventOrder, r: usize, s: usize) -> Cell<K>
+    requires fits { order.now.count * order.now.count ≤ length cells.now }
+    requires row { r < order.now.count }
+    requires column { s < order.now.count }
+    ensures { result ≡ view order.now cells.now r s }
 {
-    table.at(
-        table.order.events[r] as usize,
-        table.order.events[s] as usize,
+    at(
+        cells,
+        order.count,
+        order.events[r] as usize,
+        order.events[s] as usize,
     )
 }
 
-pub fn put_ranks<K: Kind>(table: &mut Table<'_, K>, r: usize, s: usize, cell: Cell<K>)
-    requires row { r < table.old.order.count }
-    requires column { s < table.old.order.count }
-    ensures kept { Same table.old table.new }
-    ensures written { Written table.old.order.count r s cell (seen table.old) (seen table.new) }
+pub fn put_ranks<K: Kind>(
+    cells: &mut [Cell<K>],
+    order: &EventOrder,
+    r: usize,
+    s: usize,
+    cell: Cell<K>,
+)
+    requires fits { order.now.count * order.now.count ≤ length cells.old }
+    requires row { r < order.now.count }
+    requires column { s < order.now.count }
+    ensures long { length cells.new ≡ length cells.old }
+    ensures written { Written order.now.count r s cell (view order.now cells.old) (view order.now cells.new) }
 {
-    let i = table.order.events[r] as usize;
-    let j = table.order.events[s] as usize;
-    table.put(i, j, cell);
+    put(
+        cells,
+        order.count,
+        order.events[r] as usize,
+        order.events[s] as usize,
+        cell,
+    );
 }

@@ -35,8 +35,8 @@ fn touching<K: Kind>(table: &Table<'_, K>, r: usize, s: usize) -> bool
     requires column { s < table.now.order.count }
     ensures { Touching (seen table.now) r s result }
 {
-    let out = at_ranks(table, r, s);
-    let back = at_ranks(table, s, r);
+    let out = at_ranks(table.cells, &table.order, r, s);
+    let back = at_ranks(table.cells, &table.order, s, r);
     out.bound.is_some() || back.bound.is_some()
 }
 

@@ -2,6 +2,7 @@
 #![tactic(auto)]
 
 pub mod earliest;
+pub mod lent;
 pub mod lesser;
 pub mod links;
 pub mod mode;

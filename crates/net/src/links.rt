@@ -16,54 +16,64 @@ use order::counts::Counts;
 use order::eliminating::count_elimination;
 use order::event_order::EventOrder;
 use order::rank::rank;
-use table::lent::Table;
+use table::cell::Cell;
+use table::grid::at;
 
 // Whether a bound is in force between two different events, in either direction.
-fn linked<K: Kind>(table: &Table<'_, K>, i: usize, j: usize) -> bool
-    requires row { i < table.now.order.count }
-    requires column { j < table.now.order.count }
-    ensures { result ≡ cells_spec.neighbours (bounds K.Kind.amount table.now.order.count table.now.cells.now) i j }
+fn linked<K: Kind>(cells: &[Cell<K>], n: usize, i: usize, j: usize) -> bool
+    requires few { n ≤ 128 }
+    requires fits { n * n ≤ length cells.now }
+    requires row { i < n }
+    requires column { j < n }
+    ensures { result ≡ cells_spec.neighbours (bounds K.Kind.amount n cells.now) i j }
 {
-    i != j && (table.at(i, j).bound.is_some() || table.at(j, i).bound.is_some())
+    i != j && (at(cells, n, i, j).bound.is_some() || at(cells, n, j, i).bound.is_some())
 }
 
 // The neighbours of event i.
-fn neighbours<K: Kind>(table: &Table<'_, K>, i: usize) -> Marks
-    requires { i < table.now.order.count }
-    ensures { (q : ℕ) → has result q ≡ cells_spec.neighbours (bounds K.Kind.amount table.now.order.count table.now.cells.now) i q }
+fn neighbours<K: Kind>(cells: &[Cell<K>], n: usize, i: usize) -> Marks
+    requires few { n ≤ 128 }
+    requires fits { n * n ≤ length cells.now }
+    requires row { i < n }
+    ensures { (q : ℕ) → has result q ≡ cells_spec.neighbours (bounds K.Kind.amount n cells.now) i q }
 {
-    Marks::of(table.events(), |j| linked(table, i, j))
+    Marks::of(n, |j| linked(cells, n, i, j))
 }
 
 // Writes the neighbours of every event at the start of the place, and tells that part of it. There is no heap to put them on.
-fn gather<'n, K: Kind>(table: &Table<'_, K>, place: &'n mut [Marks]) -> &'n mut [Marks]
-    requires { table.now.order.count ≤ length place.old }
-    ensures sized { length result.now ≡ table.now.order.count }
-    ensures near { (i j : ℕ) → graph_of result.now i j ≡ cells_spec.neighbours (bounds K.Kind.amount table.now.order.count table.now.cells.now) i j }
+fn gather<'n, K: Kind>(cells: &[Cell<K>], n: usize, place: &'n mut [Marks]) -> &'n mut [Marks]
+    requires few { n ≤ 128 }
+    requires fits { n * n ≤ length cells.now }
+    requires room { n ≤ length place.old }
+    ensures sized { length result.now ≡ n }
+    ensures near { (i j : ℕ) → graph_of result.now i j ≡ cells_spec.neighbours (bounds K.Kind.amount n cells.now) i j }
 {
-    let near = &mut place[..table.events()];
+    let near = &mut place[..n];
     for (i, marks) in near.iter_mut().enumerate() {
-        *marks = neighbours(table, i);
+        *marks = neighbours(cells, n, i);
     }
     near
 }
 
 // Ranks from n down, each to the unranked event with fewest unranked neighbours, the lowest number among equals.
 // The place stands here and in `counts`, since `gather` tells a part of it; a closure for the rest would be longer.
-pub fn by_fewest<K: Kind>(table: &Table<'_, K>) -> EventOrder
-    ensures sized { result.count ≡ table.now.order.count }
-    ensures value { events_of result ≡ ranking table.now.order.count (cells_spec.neighbours (bounds K.Kind.amount table.now.order.count table.now.cells.now)) table.now.order.count }
-    ensures ruled { Ranked table.now.order.count (cells_spec.neighbours (bounds K.Kind.amount table.now.order.count table.now.cells.now)) (events_of result) }
+pub fn by_fewest<K: Kind>(cells: &[Cell<K>], n: usize) -> EventOrder
+    requires few { n ≤ 128 }
+    requires fits { n * n ≤ length cells.now }
+    ensures sized { result.count ≡ n }
+    ensures value { events_of result ≡ ranking n (cells_spec.neighbours (bounds K.Kind.amount n cells.now)) n }
+    ensures ruled { Ranked n (cells_spec.neighbours (bounds K.Kind.amount n cells.now)) (events_of result) }
 {
     let mut place = [Marks::none(); MOST_EVENTS];
-    rank(gather(table, &mut place))
+    rank(gather(cells, n, &mut place))
 }
 
 // What an elimination in the ordering counts.
-pub fn counts<K: Kind>(table: &Table<'_, K>) -> Counts
-    ensures value { result ≡ counts_of table.now.order.count (cells_spec.neighbours (bounds K.Kind.amount table.now.order.count table.now.cells.now)) (events_of table.now.order) }
-    ensures bounded { result.looks ≤ result.width * table.now.order.count * (table.now.order.count - 1) / 2 }
+pub fn counts<K: Kind>(cells: &[Cell<K>], order: &EventOrder) -> Counts
+    requires fits { order.now.count * order.now.count ≤ length cells.now }
+    ensures value { result ≡ counts_of order.now.count (cells_spec.neighbours (bounds K.Kind.amount order.now.count cells.now)) (events_of order.now) }
+    ensures bounded { result.looks ≤ result.width * order.now.count * (order.now.count - 1) / 2 }
 {
     let mut place = [Marks::none(); MOST_EVENTS];
-    count_elimination(gather(table, &mut place), &table.order)
+    count_elimination(gather(cells, order.count, &mut place), order)
 }

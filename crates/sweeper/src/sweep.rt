@@ -9,10 +9,11 @@ ghost use Rattle.sweeper.specs.Best.{BestInto, BestOut, Settles, Paired, Swept};
 use super::best::best;
 use super::least::Least;
 use eliminator::eliminate::lower;
-use eliminator::members::list;
+use eliminator::members::listed;
 use eliminator::ranks::at_ranks;
 use kinds::kind::Kind;
 use marks::set::Marks;
+use table::cell::Cell;
 use table::grid::place;
 use table::lent::Table;
 
@@ -33,6 +34,16 @@ fn settle<K: Kind>(table: &mut Table<'_, K>, r: usize, s: usize, least: Least<K>
     table.cells[p].by = least.by;
 }
 
+// The cell of two ranks of the table.
+// a `&Table`: the checker lends the cells of a `&mut Table` to no closure
+fn cell_at<K: Kind>(table: &Table<'_, K>, r: usize, s: usize) -> Cell<K>
+    requires row { r < table.now.order.count }
+    requires column { s < table.now.order.count }
+    ensures { result ≡ seen table.now r s }
+{
+    at_ranks(table.cells, &table.order, r, s)
+}
+
 // The distances between rank k and a lower rank, both ways.
 fn sweep_pair<K: Kind>(table: &mut Table<'_, K>, i: usize, k: usize, ranks: &[u8])
     requires within { k < table.old.order.count }
@@ -42,22 +53,22 @@ fn sweep_pair<K: Kind>(table: &mut Table<'_, K>, i: usize, k: usize, ranks: &[u8
     ensures paired { Paired K.Kind.arithmetic K.Kind.amount table.old.order.count k i (Among ranks.now (length ranks.now)) (seen table.old) (seen table.new) }
 {
     let into = best(
-        at_ranks(table, i, k).worked,
+        cell_at(table, i, k).worked,
         i,
         ranks,
         |j|
             requires { (j < table.now.order.count) × (i < table.now.order.count) × (k < table.now.order.count) }
             ensures { result ≡ ((seen table.entry.now i j).distance, (seen table.entry.now j k).worked) }
-        { (at_ranks(table, i, j).distance, at_ranks(table, j, k).worked) },
+        { (cell_at(table, i, j).distance, cell_at(table, j, k).worked) },
     );
     let out = best(
-        at_ranks(table, k, i).worked,
+        cell_at(table, k, i).worked,
         i,
         ranks,
         |j|
             requires { (j < table.now.order.count) × (i < table.now.order.count) × (k < table.now.order.count) }
             ensures { result ≡ ((seen table.entry.now k j).worked, (seen table.entry.now j i).distance) }
-        { (at_ranks(table, k, j).worked, at_ranks(table, j, i).distance) },
+        { (cell_at(table, k, j).worked, cell_at(table, j, i).distance) },
     );
     settle(table, i, k, into);
     settle(table, k, i, out);
@@ -73,7 +84,7 @@ pub fn sweep<K: Kind>(table: &mut Table<'_, K>, near: &[Marks])
     for k in 0..table.order.count {
         let mine = lower(near, k);
         let mut place = [0u8; 128];
-        let ranks = list(mine, &mut place);
+        let ranks = listed(mine, &mut place);
         for i in 0..k {
             sweep_pair(table, i, k, ranks);
         }

@@ -1,6 +1,6 @@
-// Cells row by row in one slice: where each pair's lies, and how cells are emptied.
-ghost use Rattle.std.specs.Prelude.{◌≡◌, ◌+◌, ◌*◌, ◌<◌, ◌≤◌, length};
-ghost use Rattle.table.specs.Cells.{empty, cleared};
+// Reading, writing and clearing the cells of a table of n rows of n cells, row by row in one slice.
+ghost use Rattle.std.specs.Prelude.{◌≡◌, ◌+◌, ◌*◌, ◌<◌, ◌≤◌, length, slice_set};
+ghost use Rattle.table.specs.Cells.{empty, at_cell, cleared};
 
 use super::cell::Cell;
 
@@ -20,6 +20,28 @@ pub fn place(i: usize, j: usize, n: usize) -> usize
     ensures below { result < n * n }
 {
     i * n + j
+}
+
+// What is held of the events i and j of n.
+pub fn at<K: Copy>(cells: &[Cell<K>], n: usize, i: usize, j: usize) -> Cell<K>
+    requires few { n ≤ 128 }
+    requires fits { n * n ≤ length cells.now }
+    requires row { i < n }
+    requires column { j < n }
+    ensures { result ≡ at_cell n cells.now i j }
+{
+    cells[place(i, j, n)]
+}
+
+pub fn put<K: Copy>(cells: &mut [Cell<K>], n: usize, i: usize, j: usize, cell: Cell<K>)
+    requires few { n ≤ 128 }
+    requires fits { n * n ≤ length cells.old }
+    requires row { i < n }
+    requires column { j < n }
+    ensures { cells.new ≡ slice_set cells.old (i * n + j) cell }
+{
+    let p = place(i, j, n);
+    cells[p] = cell;
 }
 
 // Empties the first m cells, and leaves the rest as they are.

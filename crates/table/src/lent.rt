@@ -4,7 +4,7 @@ ghost use Rattle.order.specs.Orderings.{events_of, upto};
 ghost use Rattle.table.specs.Cells.{at_cell, cleared};
 
 use super::cell::Cell;
-use super::grid::{clear, place};
+use super::grid::{at, clear, put};
 use order::event_order::EventOrder;
 
 // There are cells enough for every pair of the events.
@@ -45,7 +45,7 @@ impl<'t, K: Copy> Table<'t, K> {
         requires column { j < self.now.order.count }
         ensures { result ≡ at_cell self.now.order.count self.now.cells.now i j }
     {
-        self.cells[place(i, j, self.order.count)]
+        at(self.cells, self.order.count, i, j)
     }
 
     pub fn put(&mut self, i: usize, j: usize, cell: Cell<K>)
@@ -54,8 +54,7 @@ impl<'t, K: Copy> Table<'t, K> {
         ensures cells { self.new.cells.now ≡ slice_set self.old.cells.now (i * self.old.order.count + j) cell }
         ensures order { self.new.order ≡ self.old.order }
     {
-        let p = place(i, j, self.order.count);
-        self.cells[p] = cell;
+        put(self.cells, self.order.count, i, j, cell);
     }
 
     // Begins with n events: nothing is held of them, and event i has rank i + 1.

@@ -34,6 +34,10 @@ impl<'t, K: Kind> Net<'t, K> {
         self.mode = Mode::Open;
         close_cells(&mut self.table, place)?;
         self.mode = Mode::Closed;
-        Ok(counts(&self.table))
+        let table = &mut self.table;
+        // the ordering first, and the cells whole, as in `close_cells`
+        let order = &table.order;
+        let cells = &mut *table.cells;
+        Ok(counts(cells, order))
     }
 }

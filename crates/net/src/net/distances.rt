@@ -58,7 +58,7 @@ impl<'t, K: Kind> Net<'t, K> {
         if there.distance.is_none() {
             return Ok(None);
         }
-        let events = walk_cells(&self.table, i, j, place);
+        let events = walk_cells(self.table.cells, &self.table.order, i, j, place);
         Ok(Some(events))
     }
 

@@ -38,7 +38,11 @@ impl<'t, K: Kind> Net<'t, K> {
         ensures sound { Sound K.Kind.arithmetic (state K.Kind.amount self.old) → Sound K.Kind.arithmetic (state K.Kind.amount self.new) }
         ensures faithful { Kept K.Kind.arithmetic K.Kind.amount self.old → Kept K.Kind.arithmetic K.Kind.amount self.new }
     {
-        let order = by_fewest(&self.table);
+        let n = self.table.events();
+        let table = &mut self.table;
+        // the cells whole, as in `close`
+        let cells = &mut *table.cells;
+        let order = by_fewest(cells, n);
         self.table.arrange(order);
         self.mode = Mode::Open;
     }

@@ -25,7 +25,7 @@ impl<'t, K: Kind> Net<'t, K> {
         if place.len() < self.table.events() {
             return Err(Refusal::PlaceTooShort);
         }
-        write_times(&self.table, place);
+        write_times(self.table.cells, self.table.events(), place);
         Ok(())
     }
 }

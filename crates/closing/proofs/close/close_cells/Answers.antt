@@ -1,21 +1,20 @@
 -- The two ends of closing.
-use Rattle.std.proofs.Common.{refl, arith}
+use Rattle.std.proofs.Common.{take, refl, arith}
 use Rattle.eliminator.proofs.Viewing.{same_then}
-use Rattle.closing.specs.Trails.{written}
-use Rattle.closing.proofs.Pushes.{few_names}
-use Rattle.closing.proofs.Tying.{kept_eliminated, loop_ends, kept_swept, closed_ends}
+use Rattle.closing.proofs.Tying.{few_names, kept_eliminated, loop_ends, kept_swept, closed_ends}
 use Rattle.closing.proofs.close.close_cells.Goals as goal
 
-pub tell-shown-requires : goal.tell-shown-requires
-tell-shown-requires g c =
+pub tell-requires : goal.tell-requires
+tell-requires g c =
+    let l = c.show_loop-shown in
     let s = same_then c.start.ensures.kept c.in-Err.ensures.kept in
-    let few = rw (c.show_loop.ensures.table, s.order) at (few_names _ _ c.show_loop.result.names) in
-    omega (arith, few, c.requires.room)
+    let few = rw s.order at (few_names _ l.result l.new.out l.ensures.held l.ensures.names) in
+    record { held = l.ensures.held; room = omega (arith, few, c.requires.room); names = l.ensures.names }
 
 pub returns-in-Err : goal.returns-in-Err
 returns-in-Err g c =
     let f = c.in-Err.ensures in
-    let l = c.show_loop in
+    let l = c.show_loop-shown in
     let a = g.K.Kind.amount in
     let p = g.met.K.Kind.amounts in
     let o = c.args.table.now.order in
@@ -26,11 +25,11 @@ returns-in-Err g c =
     let same = rw (s.order, c.start.ensures.kept.order) at f.same in
     let failed = rw (s.order, c.start.ensures.kept.order) at f.outcome in
     record {
-      kept = s;
+      kept = record { order = s.order; room = s.room };
       same = kept_eliminated g.K.Kind.arithmetic a p o c.args.table.now.cells.now xs ys begun same;
-      rest = (rw (l.ensures.table, s.order) at c.tell-shown.ensures.few, c.tell-shown.ensures.rest);
-      ends = loop_ends g.K.Kind.arithmetic a p o c.args.table.now.cells.now xs ys begun same _ _ (written l.result) c.tell-shown.new.place c.tell-shown.result
-          failed.low failed.within (rw (l.ensures.table, s.order) at l.result.names) failed (rw s.order at l.ensures.shows) (rw (l.ensures.table, s.order) at c.tell-shown.ensures.told);
+      rest = (rw s.order at (few_names _ l.result l.new.out l.ensures.held l.ensures.names), c.tell.ensures.rest);
+      ends = loop_ends g.K.Kind.arithmetic a p o c.args.table.now.cells.now xs ys begun same _ _ (take l.result l.new.out) c.tell.new.place l.result
+          failed.low failed.within (rw s.order at l.ensures.names) failed (rw s.order at l.ensures.shows) (rw s.order at c.tell.ensures.told);
     }
 
 pub returns : goal.returns

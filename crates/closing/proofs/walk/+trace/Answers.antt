@@ -8,9 +8,8 @@ returns-in-None-clause-walks g t c = toward_one _ _ _ _ _ c.requires.row c.requi
 
 pub returns-in-Some-clause-walks : goal.returns-in-Some-clause-walks
 returns-in-Some-clause-walks g t c =
-    toward_ahead _ _ _ _ _ c.requires.row c.requires.column g.met.K.Kind.amounts _ _ _ _ c.in-Some.ensures c.if-i-j.true c.trace.ensures.walks (rw c.trace.ensures.table at c.expand-in-Some.ensures.walks)
+    toward_ahead _ _ _ _ _ c.requires.row c.requires.column g.met.K.Kind.amounts _ _ _ _ c.in-Some.ensures c.if-i-j.true c.trace-a.ensures.walks c.expand-in-Some.ensures.walks
 
 pub returns-in-Some-2-clause-walks : goal.returns-in-Some-2-clause-walks
 returns-in-Some-2-clause-walks g t c =
-    toward_back _ _ _ _ _ c.requires.row c.requires.column g.met.K.Kind.amounts _ _ _ _ c.in-Some.ensures (let z = c.in-Some.ensures.two in omega arith)
-    c.expand-in-Some-2.ensures.walks (rw c.expand-in-Some-2.ensures.table at c.trace-in-Some-2.ensures.walks)
+    toward_back _ _ _ _ _ c.requires.row c.requires.column g.met.K.Kind.amounts _ _ _ _ c.in-Some.ensures (let z = c.in-Some.ensures.two in omega arith) c.expand-a.ensures.walks c.trace.ensures.walks

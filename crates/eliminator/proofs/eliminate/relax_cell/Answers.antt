@@ -6,7 +6,7 @@ use Rattle.eliminator.proofs.eliminate.relax_cell.Goals as goal
 
 pub returns-in-Some : goal.returns-in-Some
 returns-in-Some g c = record {
-  kept = c.put_ranks.ensures.kept;
+  kept = record { order = refl; room = c.put_ranks.ensures.long };
   one = cell_lowered g.met.K.Kind.lawful g.met.K.Kind.amounts _ _ _ _ _ _ _ _ _ c.at_ranks-old.ensures c.requires.front c.at_ranks-back.ensures c.in-Some.ensures refl c.put_ranks.ensures.written;
 }
 

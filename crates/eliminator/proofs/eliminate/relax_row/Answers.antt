@@ -1,17 +1,17 @@
 -- One column after the other.
-use Rattle.std.proofs.Common.{◌≡◌, ℕ, ◌+◌, length, get_or, sym, ap, ◌∙◌, arith}
+use Rattle.std.proofs.Common.{◌≡◌, ℕ, ◌+◌, length, get_or, sym, refl, ap, ◌∙◌, arith}
 use Rattle.order.specs.declared.event_order.EventOrder.{EventOrder}
 use Rattle.table.specs.declared.cell.Cell.{Cell}
 use Rattle.table.specs.declared.lent.Table.{Table}
 use Rattle.eliminator.specs.Views.{seen}
 use Rattle.eliminator.specs.Members.{Others}
 use Rattle.eliminator.specs.Steps.{OneCell, RowPart}
-use Rattle.eliminator.proofs.Viewing.{same_start, same_then, same_at, same_count}
+use Rattle.eliminator.proofs.Viewing.{same_then, same_at, same_count}
 use Rattle.eliminator.proofs.Relaxing.{row_start, row_front, row_turn, row_skip}
 use Rattle.eliminator.proofs.eliminate.relax_row.Goals as goal
 
 pub loop-rank-init : goal.loop-rank-init
-loop-rank-init g c = (same_start c.args.table.now, row_start _ c.args.ranks.now _)
+loop-rank-init g c = (record { order = refl; room = refl }, row_start _ c.args.ranks.now _)
 
 pub relax_cell-requires : goal.relax_cell-requires
 relax_cell-requires g c =

@@ -7,4 +7,4 @@ use Rattle.eliminator.proofs.eliminate.relax_row.Given as goal
 abbrev pub invariant-loop-rank : goal.invariant-loop-rank
 invariant-loop-rank g l =
     let m = g.K.Kind in
-    Same l.initial.table l.table × RowPart m.arithmetic m.amount l.initial.table.order.count l.k l.i (Others l.ranks l.rank-index l.i) (seen l.initial.table) (seen l.table)
+    Same l.fn.table l.table × RowPart m.arithmetic m.amount l.fn.table.order.count l.k l.i (Others l.ranks l.rank-index l.i) (seen l.fn.table) (seen l.table)

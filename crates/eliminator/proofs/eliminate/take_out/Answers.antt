@@ -20,8 +20,8 @@ relax_row-requires g c =
     record {
       within = omega (arith, c.requires.within);
       row = c.requires.members c.in-Some.i (c.loop-i.invariant.1 c.in-Some.i c.in-Some.ensures.steps.here);
-      columns = λ t h. c.requires.members _ (c.list-ranks.ensures.member t h);
-      apart = c.list-ranks.ensures.apart;
+      columns = λ t h. c.requires.members _ (c.listed-ranks.ensures.member t h);
+      apart = c.listed-ranks.ensures.apart;
     }
 
 pub loop-i-preserved : goal.loop-i-preserved
@@ -29,11 +29,11 @@ loop-i-preserved g c =
     let i = c.loop-i.invariant in
     let t = c.in-Some.ensures.steps in
     let m = g.K.Kind in
-    let ranks = c.list-ranks.result.now in
+    let ranks = c.listed-ranks.result.now in
     let row = same_count (λ (n : ℕ). RowPart m.arithmetic m.amount n c.args.k c.in-Some.i (Others ranks (length ranks) c.in-Some.i) (seen c.loop-i.table) (seen c.relax_row.new.table)) i.0 c.relax_row.ensures.part in (
       same_then i.0 c.relax_row.ensures.kept,
       waits_on _ _ _ t.others c.args.mine i.1,
-      part_turn _ c.args.mine _ _ _ _ _ _ c.requires.within c.requires.members i.1 t.here t.others c.without-others.ensures i.2 (row_all _ _ c.args.mine _ _ _ _ c.list-ranks.ensures c.without-others.ensures row),
+      part_turn _ c.args.mine _ _ _ _ _ _ c.requires.within c.requires.members i.1 t.here t.others c.without-others.ensures i.2 (row_all _ _ c.args.mine _ _ _ _ c.listed-ranks.ensures c.without-others.ensures row),
       joined_turn _ c.args.mine _ _ _ _ _ _ (omega (arith, c.requires.members c.in-Some.i (i.1 c.in-Some.i t.here))) t.others c.without-others.ensures c.union.ensures i.3,
     )
 

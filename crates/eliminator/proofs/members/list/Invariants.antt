@@ -9,4 +9,4 @@ abbrev pub invariant-loop-rank : goal.invariant-loop-rank
 invariant-loop-rank l =
     let mine = l.fn.mine in
     let rest = l.rank-iterator.rest in
-    (length l.place ≡ length l.initial.place) × Waits mine rest × (l.count + how_many (has rest) 128 ≤ 128) × Lists (Seen mine rest) l.place l.count
+    (length l.ranks ≡ length l.initial.ranks) × Waits mine rest × (l.m + how_many (has rest) 128 ≤ 128) × Lists (Seen mine rest) l.ranks l.m

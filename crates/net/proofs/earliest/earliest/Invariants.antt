@@ -6,4 +6,4 @@ use Rattle.net.specs.Times.{column}
 use Rattle.net.proofs.earliest.earliest.Given as goal
 
 abbrev pub invariant-loop-i : goal.invariant-loop-i
-invariant-loop-i g l = amount_of g.K.Kind.amount l.best ≡ least g.K.Kind.arithmetic l.i (column g.K.Kind.amount l.table.order.count l.table.cells.now l.j)
+invariant-loop-i g l = amount_of g.K.Kind.amount l.best ≡ least g.K.Kind.arithmetic l.i (column g.K.Kind.amount l.n l.cells l.j)

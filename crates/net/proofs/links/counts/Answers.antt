@@ -6,5 +6,5 @@ use Rattle.net.proofs.links.counts.Goals as goal
 
 pub returns-clause-value : goal.returns-clause-value
 returns-clause-value g c =
-    let o = c.args.table.now.order in
+    let o = c.args.order.now in
     moved (λ n G. c.count_elimination.result ≡ counts_of o.count G (events_of o)) _ _ _ c.gather.ensures.sized c.gather.ensures.near c.count_elimination.ensures.value

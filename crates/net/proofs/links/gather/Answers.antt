@@ -5,13 +5,11 @@ use Rattle.net.proofs.links.gather.Goals as goal
 
 pub loop-i-preserved : goal.loop-i-preserved
 loop-i-preserved g c =
-    let t = c.args.table.now in
     let within : c.loop-i.i < length c.loop-i.near = omega arith in
-    gather_more (neighbours (bounds g.K.Kind.amount t.order.count t.cells.now)) c.loop-i.near c.neighbours.result c.loop-i.i within c.neighbours.ensures c.loop-i.invariant
+    gather_more (neighbours (bounds g.K.Kind.amount c.args.n c.args.cells.now)) c.loop-i.near c.neighbours.result c.loop-i.i within c.neighbours.ensures c.loop-i.invariant
 
 pub returns-clause-near : goal.returns-clause-near
 returns-clause-near g c =
-    let t = c.args.table.now in
-    let whole : length c.loop-i.near ≡ t.order.count = omega (arith, length-take c.events.result c.args.place.now) in
-    gather_all (neighbours (bounds g.K.Kind.amount t.order.count t.cells.now)) c.loop-i.near t.order.count whole
-    (λ i j l. linked_outside g.K.Kind.amount t.order.count i j t.cells.now (inl l)) (λ p j l. c.loop-i.invariant p j (omega (arith, whole)))
+    let whole : length c.loop-i.near ≡ c.args.n = omega (arith, length-take c.args.n c.args.place.now) in
+    gather_all (neighbours (bounds g.K.Kind.amount c.args.n c.args.cells.now)) c.loop-i.near c.args.n whole
+    (λ i j l. linked_outside g.K.Kind.amount c.args.n i j c.args.cells.now (inl l)) (λ p j l. c.loop-i.invariant p j (omega (arith, whole)))

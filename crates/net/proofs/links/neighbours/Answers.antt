@@ -7,9 +7,8 @@ use Rattle.net.proofs.links.neighbours.Goals as goal
 
 pub returns : goal.returns
 returns g c = λ q.
-    let t = c.args.table.now in
-    let f = neighbours (bounds g.K.Kind.amount t.order.count t.cells.now) c.args.i in
-    let inside : q < c.events.result → has c.of.result q ≡ f q = λ l. let told = c.of.ensures.inside q l in search rules in
+    let f = neighbours (bounds g.K.Kind.amount c.args.n c.args.cells.now) c.args.i in
+    let inside : q < c.args.n → has c.of.result q ≡ f q = λ l. let told = c.of.ensures.inside q l in search rules in
     ⊎_elim inside
-    (λ l. c.of.ensures.outside q l ∙ sym (linked_outside g.K.Kind.amount t.order.count c.args.i q t.cells.now (inr (omega arith))))
-    (cases_lt q c.events.result)
+    (λ l. c.of.ensures.outside q l ∙ sym (linked_outside g.K.Kind.amount c.args.n c.args.i q c.args.cells.now (inr (omega arith))))
+    (cases_lt q c.args.n)

@@ -18,7 +18,7 @@ loop-i-init g c = (c.loop-k.invariant.0, same_self _ (seen c.loop-k.table), λ u
 pub sweep_pair-requires : goal.sweep_pair-requires
 sweep_pair-requires g c =
     let n = ap (λ (o : EventOrder). o.count) c.loop-i.invariant.0.order in
-    record { within = omega (arith, c.loop-k-test.true); low = c.loop-i-test.true; members = λ t h. c.lower-mine.ensures.members _ (c.list-ranks.ensures.member t h) }
+    record { within = omega (arith, c.loop-k-test.true); low = c.loop-i-test.true; members = λ t h. c.lower-mine.ensures.members _ (c.listed-ranks.ensures.member t h) }
 
 pub settle-requires : goal.settle-requires
 settle-requires g c =
@@ -29,14 +29,14 @@ pub loop-i-preserved : goal.loop-i-preserved
 loop-i-preserved g c =
     let m = g.K.Kind in
     let i = c.loop-i.invariant in
-    let ranks = c.list-ranks.result.now in
+    let ranks = c.listed-ranks.result.now in
     let xs = seen c.loop-k.table in
     let ys = seen c.loop-i.table in
     let zs = seen c.sweep_pair.new.table in
     let pair = same_count (λ (n : ℕ). Paired m.arithmetic m.amount n c.loop-k.k c.loop-i.i (Among ranks (length ranks)) ys zs) i.0 c.sweep_pair.ensures.paired in (
       same_then i.0 c.sweep_pair.ensures.kept,
       same_more _ xs ys zs i.1 pair.work,
-      λ us s near d. done_next _ us c.loop-k.k c.loop-i.i c.args.near.now c.lower-mine.result ys _ c.loop-i-test.true c.loop-k-test.true c.lower-mine.ensures near (same_more _ us xs ys s i.1) (paired_as _ _ _ _ c.lower-mine.result _ _ _ c.list-ranks.ensures pair) (i.2 us s near d),
+      λ us s near d. done_next _ us c.loop-k.k c.loop-i.i c.args.near.now c.lower-mine.result ys _ c.loop-i-test.true c.loop-k-test.true c.lower-mine.ensures near (same_more _ us xs ys s i.1) (paired_as _ _ _ _ c.lower-mine.result _ _ _ c.listed-ranks.ensures pair) (i.2 us s near d),
     )
 
 pub loop-k-preserved : goal.loop-k-preserved

@@ -21,8 +21,8 @@ returns g c =
     let far : ℕ → Option K = λ q. (xs q k).worked in
     let near_back : ℕ → Option K = λ q. (xs k q).worked in
     let far_back : ℕ → Option K = λ q. (xs q i).distance in
-    let into = best_worked m.arithmetic m.amount among i near far _ c.at_ranks.ensures (c.best-into.ensures near far (λ t r h p. both_parts p)) in
-    let out = best_worked m.arithmetic m.amount among i near_back far_back _ c.at_ranks-2.ensures (c.best-out.ensures near_back far_back (λ t r h p. both_parts p)) in
+    let into = best_worked m.arithmetic m.amount among i near far _ c.cell_at.ensures (c.best-into.ensures near far (λ t r h p. both_parts p)) in
+    let out = best_worked m.arithmetic m.amount among i near_back far_back _ c.cell_at-2.ensures (c.best-out.ensures near_back far_back (λ t r h p. both_parts p)) in
     record {
       kept = same_then first.kept c.settle-2.ensures.kept;
       paired = paired _ _ _ _ _ _ xs _ _ c.requires.low c.requires.within into out first.settles second;

@@ -6,5 +6,6 @@ use Rattle.net.proofs.net.Net.rank.Goals as goal
 
 pub returns-clause-outcome : goal.returns-clause-outcome
 returns-clause-outcome g c =
-    ap accepted (stated_ordered g.K.Kind.amount c.args.self.now.table c.arrange.new.self c.args.self.now.mode c.by_fewest-order.result c.by_fewest-order.ensures.sized c.arrange.ensures.cells c.arrange.ensures.order)
-    ∙ rank_done (state g.K.Kind.amount c.args.self.now) _ c.by_fewest-order.ensures.value
+    let told = rw c.events-n.ensures at c.by_fewest-order.ensures in
+    ap accepted (stated_ordered g.K.Kind.amount c.args.self.now.table c.arrange.new.self c.args.self.now.mode c.by_fewest-order.result told.sized c.arrange.ensures.cells c.arrange.ensures.order)
+    ∙ rank_done (state g.K.Kind.amount c.args.self.now) _ told.value

@@ -12,7 +12,11 @@ pub returns-clause-refused : goal.returns-clause-refused
 returns-clause-refused g c = times_placed _ _ _ (search (rules, not_open)) (placed_long _ _ (omega arith))
 
 pub returns-clause-told : goal.returns-clause-told
-returns-clause-told g c = λ k. (timed g.K.Kind.arithmetic g.met.K.Kind.lawful g.K.Kind.amount c.args.self.now k (search (rules, not_open)) c.write_times.new.place c.write_times.ensures.times, c.write_times.ensures.rest)
+returns-clause-told g c = λ k.
+    let written = rw c.events-2.ensures at c.write_times.ensures in
+    (timed g.K.Kind.arithmetic g.met.K.Kind.lawful g.K.Kind.amount c.args.self.now k (search (rules, not_open)) c.write_times.new.place written.times, written.rest)
 
 pub returns-clause-schedule : goal.returns-clause-schedule
-returns-clause-schedule g c = λ k. planned g.K.Kind.arithmetic g.met.K.Kind.lawful g.K.Kind.amount c.args.self.now k (search (rules, not_open)) c.write_times.new.place c.write_times.ensures.times
+returns-clause-schedule g c = λ k.
+    let written = rw c.events-2.ensures at c.write_times.ensures in
+    planned g.K.Kind.arithmetic g.met.K.Kind.lawful g.K.Kind.amount c.args.self.now k (search (rules, not_open)) c.write_times.new.place written.times

@@ -1,9 +1,0 @@
--- The events of the ranks before p are written, and the rest of the place is as it was.
-use Rattle.std.proofs.Common.{◌≡◌, map, take, drop}
-use Rattle.eliminator.specs.Views.{event_at}
-use Rattle.closing.specs.Trails.{written}
-use Rattle.closing.proofs.trail.Trail.tell.Given as goal
-
-abbrev pub invariant-loop-p : goal.invariant-loop-p
-invariant-loop-p g l =
-    (take l.p l.place ≡ map (event_at l.order) (take l.p (written l.self))) × (drop l.self.len l.place ≡ drop l.self.len l.initial.place)
