@@ -1,6 +1,6 @@
 -- The first event at fault, met by going along the list.
 use Rattle.std.proofs.Common.{◌≡◌, ℕ, zero, suc, ◌-◌, ◌<◌, ◌≤◌, true, false, ◌&&◌, eqb, ltb, leb, List, [], ◌∷◌, length, get_or, Some, None, Err, Option, sym, refl, ap, ◌∙◌, ⊎_elim, arith}
-use Rattle.std.proofs.lemmas.Bool.{cases_eq, cond-true, cond-false, eq-eqb, ne_eqb, lt-ltb, le-ltb, le-leb, and_from, and_right, or_from, or_left, or_right}
+use Rattle.std.proofs.lemmas.Bool.{cases_eq, cond-true, cond-false, eq-eqb, ne_eqb, lt-ltb, le-ltb, le-leb, lt-leb, and_from, and_left, and_right, or_from, or_left, or_right}
 use Rattle.order.specs.declared.event_order.Misordered.{Misordered}
 use Rattle.order.specs.declared.event_order.Misordered.TheVariants.{Count, Outside, Again}
 use Rattle.order.specs.Orderings.{stretch, among, first_fault, arranged, unless}
@@ -54,6 +54,9 @@ sound_ends n k xs l h = h ∙ ap (λ m. first_fault n (earlier xs k) (stretch xs
 -- what the list comes to, by what is known of its events
 pub arranged_by : (n : ℕ) (xs : List ℕ) (why : Option Misordered) → n ≤ 128 → length xs ≡ n → first_fault n [] xs ≡ why → arranged n xs ≡ unless xs why
 arranged_by n xs why small e h = ap (unless xs) (cond-true (leb n 128 && eqb (length xs) n) _ _ (and_from _ _ (le-leb n 128 small) (eq-eqb _ n e)) ∙ h)
+
+pub arranged_large : (n : ℕ) (xs : List ℕ) → 128 < n → arranged n xs ≡ Err Count
+arranged_large n xs l = ap (unless xs) (cond-false (leb n 128 && eqb (length xs) n) _ _ (and_left _ _ (lt-leb n 128 l)))
 
 pub arranged_count : (n : ℕ) (xs : List ℕ) → (length xs ≡ n → ⊥) → arranged n xs ≡ Err Count
 arranged_count n xs ne = ap (unless xs) (cond-false (leb n 128 && eqb (length xs) n) _ _ (and_right _ _ (ne_eqb _ n ne)))

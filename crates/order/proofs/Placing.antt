@@ -1,39 +1,35 @@
 -- An ordering made from a list, place by place.
-use Rattle.std.proofs.Common.{◌≡◌, ℕ, true, false, ◌||◌, eqb, suc, ◌+◌, ◌<◌, ◌≤◌, ◌≢◌, List, length, get_or, set, sym, ap, ◌∙◌, subst, ⊎_elim, arith, length-set, get_or-set_other, get_or-set_same}
-use Rattle.std.proofs.lemmas.Bool.{cases_eq, both_ways, eq-eqb, eqb-true, or_left, or_right, or_cases}
-use Rattle.marks.specs.declared.set.Marks.{Marks}
-use Rattle.marks.specs.Sets.{has}
+use Rattle.std.proofs.Common.{◌≡◌, ℕ, suc, ◌+◌, ◌<◌, ◌≤◌, ◌≢◌, List, length, get_or, set, sym, ap, ◌∙◌, subst, ⊎_elim, arith, length-set, get_or-set_other, get_or-set_same}
+use Rattle.std.proofs.lemmas.Bool.{cases_eq}
 use Rattle.order.proofs.Pigeons.{covered}
 use Rattle.order.proofs.Faults.{Sound, sound_starts, sound_more}
 
--- the first k events of the list xs have their places and are named
-pub record Placed (n : ℕ) (xs events ranks : List ℕ) (named : Marks) (k : ℕ) : Type 0 where
+-- the first k events of the list xs have their places; 255 is no place
+pub record Placed (n : ℕ) (xs events ranks : List ℕ) (k : ℕ) : Type 0 where
   pub ranks_sized : length ranks ≡ 128
   pub events_sized : length events ≡ 128
   pub same : (q : ℕ) → q < k → get_or events q 0 ≡ get_or xs q 0
   pub below : (q : ℕ) → q < k → get_or xs q 0 < n
   pub there : (q : ℕ) → q < k → get_or ranks (get_or xs q 0) 0 ≡ q
-  pub named_all : (q : ℕ) → q < k → has named (get_or xs q 0) ≡ true
-  pub named_only : (e : ℕ) → has named e ≡ true → (q : ℕ) × (q < k) × (get_or xs q 0 ≡ e)
+  pub back : (e : ℕ) → e < n → (get_or ranks e 0 ≡ 255 → ⊥) → (get_or ranks e 0 < k) × (get_or xs (get_or ranks e 0) 0 ≡ e)
   pub sound : Sound n xs k
 
-pub placed_starts : (n : ℕ) (xs events ranks : List ℕ) (named : Marks) → length xs ≡ n → length events ≡ 128 → length ranks ≡ 128 → ((e : ℕ) → has named e ≡ false) → Placed n xs events ranks named 0
-placed_starts n xs events ranks named e le lr none = record {
+pub placed_starts : (n : ℕ) (xs events ranks : List ℕ) → n ≤ 128 → length xs ≡ n → length events ≡ 128 → length ranks ≡ 128 → ((e : ℕ) → e < 128 → get_or ranks e 0 ≡ 255) → Placed n xs events ranks 0
+placed_starts n xs events ranks small e le lr free = record {
   ranks_sized = lr;
   events_sized = le;
   same = λ q p. absurd (omega arith);
   below = λ q p. absurd (omega arith);
   there = λ q p. absurd (omega arith);
-  named_all = λ q p. absurd (omega arith);
-  named_only = λ x h. absurd (both_ways (has named x) (none x) h);
+  back = λ x p ne. absurd (ne (free x (omega arith)));
   sound = sound_starts n xs e;
 }
 
-pub placed_more : (n : ℕ) (xs events ranks : List ℕ) (named named' : Marks) (k : ℕ) → n ≤ 128 → k < n → get_or xs k 0 < n → has named (get_or xs k 0) ≡ false → ((q : ℕ) → has named' q ≡ (has named q || eqb q (get_or xs k 0)))
-    → Placed n xs events ranks named k → Placed n xs (set events k (get_or xs k 0)) (set ranks (get_or xs k 0) k) named' (k + 1)
-placed_more n xs events ranks named named' k small l low free add h =
+pub placed_more : (n : ℕ) (xs events ranks : List ℕ) (k : ℕ) → n ≤ 128 → k < n → get_or xs k 0 < n → get_or ranks (get_or xs k 0) 0 ≡ 255 → Placed n xs events ranks k
+    → Placed n xs (set events k (get_or xs k 0)) (set ranks (get_or xs k 0) k) (k + 1)
+placed_more n xs events ranks k small l low free h =
     let x : ℕ = get_or xs k 0 in
-    let new : (q : ℕ) → q < k → get_or xs q 0 ≡ x → ⊥ = λ q p e. both_ways (has named x) free (ap (has named) (sym e) ∙ h.named_all q p) in
+    let new : (q : ℕ) → q < k → get_or xs q 0 ≡ x → ⊥ = λ q p e. let f : q ≡ 255 = sym (h.there q p) ∙ ap (λ y. get_or ranks y 0) e ∙ free in omega arith in
     let one : suc k ≡ k + 1 = omega arith in
     let last : (q : ℕ) → q < k + 1 → (q ≡ k → ⊥) → q < k = λ q p ne. omega arith in
     record {
@@ -46,13 +42,14 @@ placed_more n xs events ranks named named' k small l low free add h =
       there = λ q p. ⊎_elim
           (λ e. ap (λ y. get_or (set ranks x k) (get_or xs y 0) 0) e ∙ get_or-set_same ranks x k 0 (omega (arith, h.ranks_sized, low)) ∙ sym e)
           (λ ne. let off : get_or xs q 0 ≢ x = new q (last q p ne) in get_or-set_other ranks x (get_or xs q 0) k 0 off ∙ h.there q (last q p ne)) (cases_eq q k);
-      named_all = λ q p. add (get_or xs q 0) ∙ ⊎_elim
-          (λ e. or_right (has named (get_or xs q 0)) _ (eq-eqb (get_or xs q 0) x (ap (λ y. get_or xs y 0) e)))
-          (λ ne. or_left (has named (get_or xs q 0)) _ (h.named_all q (last q p ne))) (cases_eq q k);
-      named_only = λ e p. ⊎_elim
-          (λ old. let b = h.named_only e old in (b.0, omega (arith, b.1), b.2))
-          (λ same. (k, omega arith, sym (eqb-true e x same)))
-          (or_cases (has named e) (eqb e x) (sym (add e) ∙ p));
+      back = λ e p ne. ⊎_elim
+          (λ s. let r : get_or (set ranks x k) e 0 ≡ k = ap (λ y. get_or (set ranks x k) y 0) s ∙ get_or-set_same ranks x k 0 (omega (arith, h.ranks_sized, low)) in
+          (omega arith, ap (λ y. get_or xs y 0) r ∙ sym s))
+          (λ off. let o : e ≢ x = off in
+          let r : get_or (set ranks x k) e 0 ≡ get_or ranks e 0 = get_or-set_other ranks x e k 0 o in
+          let b : (get_or ranks e 0 < k) × (get_or xs (get_or ranks e 0) 0 ≡ e) = h.back e p (λ z. ne (r ∙ z)) in
+          (omega (arith, b.0), ap (λ y. get_or xs y 0) r ∙ b.1))
+          (cases_eq e x);
       sound = subst (Sound n xs) one (sound_more n xs k l low new h.sound);
     }
 
@@ -76,7 +73,7 @@ permutes n events ranks low there =
       back = λ e p. let t = covered n at low inj e p in ap (λ x. at (rk x)) (sym t.2) ∙ ap at (there t.0 t.1) ∙ t.2;
     }
 
-pub placed_permutes : (n k : ℕ) (xs events ranks : List ℕ) (named : Marks) → n ≤ k → Placed n xs events ranks named k → Permutes n events ranks
-placed_permutes n k xs events ranks named l h = permutes n events ranks
+pub placed_permutes : (n k : ℕ) (xs events ranks : List ℕ) → n ≤ k → Placed n xs events ranks k → Permutes n events ranks
+placed_permutes n k xs events ranks l h = permutes n events ranks
     (λ r p. subst (λ x. x < n) (sym (h.same r (omega arith))) (h.below r (omega arith)))
     (λ r p. ap (λ x. get_or ranks x 0) (h.same r (omega arith)) ∙ h.there r (omega arith))

@@ -3,7 +3,6 @@ ghost use Rattle.std.specs.Prelude.{◌≡◌, ℕ, ◌<◌, ◌≤◌, List, le
 ghost use Rattle.order.specs.Orderings.{events_of, upto, event_of_rank, rank_of_event, told, arranged};
 
 use super::event_order::{EventOrder, Misordered};
-use marks::set::Marks;
 use std::array;
 
 impl EventOrder {
@@ -30,17 +29,16 @@ impl EventOrder {
         }
         // two arrays by index: each turn writes one place of either
         let mut events = [0u8; 128];
-        let mut ranks = [0u8; 128];
-        let mut named = Marks::none();
+        // 255 is no rank: an event keeps it until it is named
+        let mut ranks = [255u8; 128];
         for (k, &number) in list.iter().enumerate() {
             let event = number as usize;
             if event >= n {
                 return Err(Misordered::Outside);
             }
-            if named.contains(event) {
+            if ranks[event] != 255 {
                 return Err(Misordered::Again);
             }
-            named = named.with(event);
             // two arrays, here and in `rank`: an EventOrder has its facts only once every place is filled
             events[k] = number;
             ranks[event] = k as u8;
