@@ -13,12 +13,9 @@ pub fn at_ranks<K: Kind>(cells: &[Cell<K>], order: &EventOrder, r: usize, s: usi
     requires column { s < order.now.count }
     ensures { result ≡ view order.now cells.now r s }
 {
-    at(
-        cells,
-        order.count,
-        order.events[r] as usize,
-        order.events[s] as usize,
-    )
+    let i = order.events[r] as usize;
+    let j = order.events[s] as usize;
+    at(cells, order.count, i, j)
 }
 
 pub fn put_ranks<K: Kind>(
@@ -34,11 +31,7 @@ pub fn put_ranks<K: Kind>(
     ensures long { length cells.new ≡ length cells.old }
     ensures written { Written order.now.count r s cell (view order.now cells.old) (view order.now cells.new) }
 {
-    put(
-        cells,
-        order.count,
-        order.events[r] as usize,
-        order.events[s] as usize,
-        cell,
-    );
+    let i = order.events[r] as usize;
+    let j = order.events[s] as usize;
+    put(cells, order.count, i, j, cell);
 }

@@ -10,7 +10,6 @@ pub fn lesser<K: Kind>(first: Option<K>, second: Option<K>) -> Option<K>
     ensures { amount_of K.Kind.amount result ≡ lesser K.Kind.arithmetic (amount_of K.Kind.amount first) (amount_of K.Kind.amount second) }
 {
     match (first, second) {
-        // by what is in them: to hand on the argument whole copies it, which strict bounds pay for
         (Some(a), Some(b)) => Some(if b.compare(a).is_lt() { b } else { a }),
         (None, _) => second,
         (_, None) => first,

@@ -2,7 +2,6 @@
 use super::matrix::Matrix;
 use super::model::event_byte;
 use std::alloc::{AllocError, Global};
-use std::collections::{BTreeMap, BTreeSet};
 
 // The trial's own, apart from the net's Counts, which are held to it.
 #[derive(Clone, Copy, Default)]
@@ -12,68 +11,82 @@ pub struct PlainCounts {
     pub looks: u64,
 }
 
-// The events that are left, each with its neighbours.
+// The events that are left, each with a mark for every event: whether it is a neighbour. None stands for one taken out.
+// marks and no sets of events: in trees of sets the joins took a quarter of the trial
 #[derive(Drop)]
 struct Graph {
-    left: BTreeMap<u8, BTreeSet<u8>>,
+    left: Vec<Option<Vec<bool>>>,
 }
 
 impl Graph {
     // Two events are neighbours where a bound is in force in either direction.
     fn of_bounds(heap: Global, bounds: &Matrix) -> Result<Graph, AllocError> {
-        let mut left = BTreeMap::new(heap);
-        for event in 0..bounds.size() {
-            left.insert(event_byte(event), BTreeSet::new(heap))?;
-        }
-        let mut graph = Graph { left };
+        let apart = vec![in heap; false; bounds.size()]?;
+        let mut graph = Graph {
+            left: vec![in heap; Some(apart); bounds.size()]?,
+        };
         for (i, row) in bounds.rows().iter().enumerate() {
             for (j, bound) in row.iter().enumerate() {
                 if bound.is_some() {
-                    graph.join(event_byte(i), event_byte(j))?;
+                    graph.join(i, j);
                 }
             }
         }
         Ok(graph)
     }
 
-    // Makes two events neighbours; tells whether they were none.
-    fn join(&mut self, i: u8, j: u8) -> Result<bool, AllocError> {
-        if let Some(neighbours) = self.left.get_mut(&i) {
-            neighbours.insert(j)?;
+    fn mark(&mut self, i: usize, j: usize, joined: bool) {
+        if let Some(Some(marks)) = self.left.get_mut(i) {
+            if let Some(mark) = marks.get_mut(j) {
+                *mark = joined;
+            }
         }
-        match self.left.get_mut(&j) {
-            Some(neighbours) => Ok(neighbours.insert(i)?),
-            None => Ok(false),
+    }
+
+    fn join(&mut self, i: usize, j: usize) {
+        self.mark(i, j, true);
+        self.mark(j, i, true);
+    }
+
+    fn are_joined(&self, i: usize, j: usize) -> bool {
+        match self.left.get(i) {
+            Some(Some(marks)) => marks.get(j).copied().unwrap_or(false),
+            _ => false,
         }
     }
 
     // Takes an event out and joins its neighbours with each other; tells how many it had, and how many pairs that makes.
-    fn take_out(&mut self, event: u8) -> Result<(u64, u64), AllocError> {
-        let Some(neighbours) = self.left.remove(&event) else {
-            return Ok((0, 0));
-        };
-        for other in neighbours.iter() {
-            if let Some(beside) = self.left.get_mut(other) {
-                beside.remove(&event);
+    fn take_out(&mut self, heap: Global, event: usize) -> Result<(u64, u64), AllocError> {
+        let mut beside = Vec::new(heap);
+        for other in 0..self.left.len() {
+            if self.are_joined(event, other) {
+                self.mark(other, event, false);
+                beside.push(other)?;
             }
         }
+        if let Some(marks) = self.left.get_mut(event) {
+            *marks = None;
+        }
         let mut made: u64 = 0;
-        for (k, i) in neighbours.iter().enumerate() {
-            for j in neighbours.iter().take(k) {
-                if self.join(*i, *j)? {
+        for (k, i) in beside.iter().enumerate() {
+            for j in beside.iter().take(k) {
+                if !self.are_joined(*i, *j) {
+                    self.join(*i, *j);
                     made = made.saturating_add(1);
                 }
             }
         }
-        Ok((neighbours.len() as u64, made))
+        Ok((beside.len() as u64, made))
     }
 
     // The first of the events with fewest neighbours left.
-    fn fewest_left(&self) -> Option<u8> {
+    fn fewest_left(&self) -> Option<usize> {
         self.left
             .iter()
-            .min_by_key(|(_, neighbours)| neighbours.len())
-            .map(|(event, _)| *event)
+            .enumerate()
+            .filter_map(|(event, marks)| Some((event, marks.as_ref()?)))
+            .min_by_key(|(_, marks)| marks.iter().filter(|joined| **joined).count())
+            .map(|(event, _)| event)
     }
 }
 
@@ -83,8 +96,8 @@ pub fn ranking(heap: Global, bounds: &Matrix) -> Result<Vec<u8>, AllocError> {
     let mut order = Vec::new(heap);
     for _ in 0..bounds.size() {
         if let Some(event) = graph.fewest_left() {
-            order.push(event)?;
-            graph.take_out(event)?;
+            order.push(event_byte(event))?;
+            graph.take_out(heap, event)?;
         }
     }
     order.reverse();
@@ -96,7 +109,7 @@ pub fn recount(heap: Global, bounds: &Matrix, order: &[u8]) -> Result<PlainCount
     let mut graph = Graph::of_bounds(heap, bounds)?;
     let mut counts = PlainCounts::default();
     for (lower, event) in order.iter().enumerate().rev() {
-        let (degree, made) = graph.take_out(*event)?;
+        let (degree, made) = graph.take_out(heap, usize::from(*event))?;
         counts.width = counts.width.max(degree);
         counts.fill = counts.fill.saturating_add(made);
         counts.looks = counts
