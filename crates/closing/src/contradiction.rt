@@ -9,8 +9,6 @@ use order::event_order::EventOrder;
 use table::cell::Cell;
 
 // The ranks of the walk from i to k, and then of the walk back to i, without i again.
-// Not inlined, as `eliminate`.
-#[inline(never)]
 pub fn show_loop<K: Kind>(
     cells: &[Cell<K>],
     order: &EventOrder,

@@ -156,8 +156,6 @@ pub struct Failing {
 }
 
 // Takes out the ranks from the highest down; left at the first two that fail.
-// Not inlined: in one function with the rest of a close, the inner loops keep fewer values in registers.
-#[inline(never)]
 pub fn eliminate<K: Kind>(table: &mut Table<'_, K>, near: &mut [Marks]) -> Result<(), Failing>
     requires room { table.old.order.count ≤ length near.old }
     requires near { Near table.old.order.count (seen table.old) near.old }

@@ -75,7 +75,7 @@ fn sweep_pair<K: Kind>(table: &mut Table<'_, K>, i: usize, k: usize, ranks: &[u8
 }
 
 // The distances between all ranks.
-// Not inlined: in one function with the rest of a close, its inner loops keep fewer values in registers.
+// Not inlined: in one function with the rest of a close, its loops keep fewer values in registers.
 #[inline(never)]
 pub fn sweep<K: Kind>(table: &mut Table<'_, K>, near: &[Marks])
     requires room { table.old.order.count ≤ length near.now }
