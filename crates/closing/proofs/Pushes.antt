@@ -52,6 +52,10 @@ names_pushed n xs v h s = record {
   below = λ x m. elim (member_pushed xs v x m) [ inl t ↦ s.below x t | inr e ↦ rw e h ];
 }
 
+-- at most n events
+pub few_names : (n : ℕ) (xs : List ℕ) → Names n xs → length xs ≤ n
+few_names n xs s = pigeons n xs s.once s.below
+
 -- there is room for one more
 pub room : (n : ℕ) (xs : List ℕ) (v : ℕ) → v < n → Names n xs → ((q : ℕ) → q < length xs → get_or xs q 0 ≡ v → ⊥) → length xs < n
 room n xs v h s f = pigeons n (v ∷ xs) (no_member xs v f, s.once) (λ x m. elim m [ inl e ↦ rw e h | inr t ↦ s.below x t ])

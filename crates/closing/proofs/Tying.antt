@@ -22,7 +22,6 @@ use Rattle.elimination.specs.Simple.Row.{stop, on as along}
 use Rattle.elimination.specs.Held.{Held, nil, plus, le}
 use Rattle.elimination.proofs.Laws.{same, amounts, measured}
 use Rattle.elimination.proofs.Sized.{swept_small, into_small, out_small}
-use Rattle.elimination.proofs.Short.{pigeons}
 use Rattle.eliminator.specs.Views.{Grid, event_at, rank_at, view}
 use Rattle.eliminator.specs.Begun.{Begun}
 use Rattle.eliminator.specs.State.{Forced, SameForce, Ready, Traced, Stage, Failed}
@@ -34,6 +33,7 @@ use Rattle.closing.specs.Closed.{Holds, Walks}
 use Rattle.eliminator.proofs.Viewing.{view_is, one_rank}
 use Rattle.eliminator.proofs.Visiting.{never}
 use Rattle.eliminator.proofs.Stages.{net, single}
+use Rattle.closing.proofs.Pushes.{few_names as few}
 use Rattle.closing.proofs.Loops.{turned_row, turned_walk, shown_of}
 
 -- the bounds in force of a table
@@ -265,9 +265,9 @@ ready {K} amount order xs us b apart sized =
         let g = apart (event_at order i) in
         cc (f, g)
 
--- at most n events
+-- at most n events are written
 pub few_names : (n m : ℕ) (out : List ℕ) → m ≤ length out → Names n (take m out) → m ≤ n
-few_names n m out h names = let l = length-take-le m out h in let p = pigeons n (take m out) names.once names.below in omega arith
+few_names n m out h names = let l = length-take-le m out h in let p = few n (take m out) names in omega arith
 
 -- what the sweep left of the elimination
 pub traced_same : {K : Type 0} {A : Arithmetic} {amount : K → List ℤ} (n lo : ℕ) (xs ys : Grid K) → SameWork n xs ys → Traced A amount n lo xs → Traced A amount n lo ys

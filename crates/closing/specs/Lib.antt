@@ -1,3 +1,4 @@
 pub mod Trace
+pub mod Trails
 pub mod Walked
 pub mod Closed

@@ -5,7 +5,7 @@ use Rattle.table.specs.declared.cell.Cell.{Cell}
 use Rattle.table.specs.declared.lent.Table.{Table}
 use Rattle.table.specs.Cells.{at_cell}
 use Rattle.table.proofs.Tables.{put_same, put_other}
-use Rattle.eliminator.specs.Views.{event_at, rank_at, view, Same, Written}
+use Rattle.eliminator.specs.Views.{event_at, rank_at, view, seen, Same, Written}
 
 -- different ranks have different events
 pub one_rank : (order : EventOrder) (r s : ℕ) → r < order.count → s < order.count → event_at order r ≡ event_at order s → r ≡ s
@@ -25,6 +25,11 @@ written order xs ys r s v fits p q e = record {
       ∙ put_other order.count (event_at order r) (event_at order s) (event_at order x) (event_at order y) xs v (order.events_below s q) (order.events_below y hy)
       (λ t. off (one_rank order x r hx p t.0, one_rank order y s hy q t.1));
 }
+
+pub written_seen : {K : Type 0} (t u : Table K) (r s : ℕ) (v : Cell K) → r < t.order.count → s < t.order.count → u.order ≡ t.order →
+    u.cells.now ≡ set t.cells.now (event_at t.order r * t.order.count + event_at t.order s) v → Written t.order.count r s v (seen t) (seen u)
+written_seen t u r s v p q o e =
+    subst (λ (z : EventOrder). Written t.order.count r s v (seen t) (view z u.cells.now)) (sym o) (written t.order t.cells.now u.cells.now r s v t.fits p q e)
 
 -- the ordering and the room stay, turn by turn
 pub same_start : {K : Type 0} (t : Table K) → Same t t
